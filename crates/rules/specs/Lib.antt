@@ -3,6 +3,7 @@ pub mod Maps
 pub mod Bytes
 pub mod Fields
 pub mod Message
+pub mod Lawful
 pub mod State
 pub mod Steps
 pub mod Sound

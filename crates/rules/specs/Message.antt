@@ -72,7 +72,7 @@ inLimits (request r) = noZero (r .ack) && ltb 0 (r .lseq)
 abbrev nth : List (List ℕ) → ℕ → List ℕ
 nth v i = getD v i []
 
-abbrev one : List (List ℕ) → ℕ → ℕ
+abbrev pub one : List (List ℕ) → ℕ → ℕ
 one v i = getD (nth v i) 0 0
 
 abbrev pub asMessage : List (List ℕ) → Said
@@ -84,7 +84,7 @@ abbrev pub asRequest : List (List ℕ) → Said
 asRequest v = request (record { cid = one v 2; src = one v 3; ack = nth v 4; lsrc = one v 5; lseq = one v 6 })
 
 -- l read as a frame of kind k, which `as` makes of its numbers
-abbrev when : Bool → Said → Option Said
+abbrev pub when : Bool → Said → Option Said
 when true x = some x
 when false x = none
 

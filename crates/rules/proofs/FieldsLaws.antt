@@ -1,0 +1,242 @@
+-- Reading and writing fields undo each other, over any table whose lengths fit two bytes and whose widths are not 0,
+-- and over any list of tags.
+use mathlib.Core.Bool.{Bool, true, false, cond, false≢true, _&&_}
+use mathlib.Core.List.{List, [], _∷_, _++_, append-assoc}
+use mathlib.Core.Path.{_≡_, refl, sym, ap, _∙_, subst}
+use Prim.Native.Nat.{ℕ, zero, suc, _+_, _-_, _*_, _/_, _%_, _^_, _≤_, _<_}
+use native.Mathlib.Nat.{mul-div-right, mul-mod-right, div-add-mod}
+use native.Mathlib.Omega.{arith}
+use lib.Dec.{ltb, eqb·suc-zero}
+use lib.ListN.{length, getD, take, drop, length-append, length-drop, take-append-drop}
+use lib.Seq.{length-take-le, drop-at, drop-drop}
+use borrow.Author.Tests.{ltb-true, leb-true, eqb-true, le-leb, eq-eqb}
+use Rattle.rules.specs.Maps.{all, among}
+use Rattle.rules.specs.Bytes.{bytes, allBytes}
+use Rattle.rules.specs.Fields.{Row, rowOf, tagsFrom, field, print, lengthOf, fieldFits, fits, firstNumbers, numbers}
+use Rattle.rules.specs.Lawful.{Each, nil, cons, Bytes}
+use Rattle.rules.proofs.MapsLaws.{and-left, and-right, and-both}
+use Rattle.rules.proofs.BytesLaws.{each-head, each-tail, each-++, each-take, each-drop, each-bytes, each-allBytes, number-bytes, bytes-number, length-allBytes, length-allNumbers, each-allNumbers, allNumbers-allBytes, allBytes-allNumbers}
+
+-- ---- the table
+
+abbrev usableRow : Row → Bool
+usableRow r = ltb 0 (r .width) && ltb (r .greatest) 65536
+
+-- the test of a table: each width is not 0, and each length fits two bytes
+abbrev pub usable : List Row → Bool
+usable rs = all usableRow rs
+
+pub record Usable (r : Row) : Type 0 where
+  pub width : 0 < r .width
+  pub short : r .greatest < 65536
+
+usable-row : (r : Row) → usableRow r ≡ true → Usable r
+usable-row r h =
+    let a = ltb 0 (r .width) in
+    let b = ltb (r .greatest) 65536 in
+    record { width = ltb-true 0 (r .width) (and-left a b h); short = ltb-true (r .greatest) 65536 (and-right a b h) }
+
+usable-at : (rs : List Row) → usable rs ≡ true → (i : ℕ) → Usable (getD rs i (record { width = 1; least = 0; greatest = 0; kinds = [] }))
+usable-at [] h i = record { width = omega arith; short = omega arith }
+usable-at (r ∷ rs) h zero = usable-row r (and-left (usableRow r) (usable rs) h)
+usable-at (r ∷ rs) h (suc i) = usable-at rs (and-right (usableRow r) (usable rs) h) i
+
+-- ---- one field
+
+-- what the test of a field says
+pub record IsField (r : Row) (t : ℕ) (l : List ℕ) : Type 0 where
+  pub long : 3 ≤ length l
+  pub tag : getD l 0 0 ≡ t
+  pub least : r .least ≤ lengthOf l
+  pub greatest : lengthOf l ≤ r .greatest
+  pub whole : lengthOf l % r .width ≡ 0
+  pub inside : 3 + lengthOf l ≤ length l
+
+-- the numbers v can stand in a field of line r
+pub record Content (r : Row) (v : List ℕ) : Type 0 where
+  pub least : r .least ≤ r .width * length v
+  pub greatest : r .width * length v ≤ r .greatest
+  pub each : Each (λ x. x < 256 ^ r .width) v
+
+module _ (rs : List Row) (t : ℕ) where
+  pub is-field : (l : List ℕ) → fieldFits rs t l ≡ true → IsField (rowOf rs t) t l
+  unfolding fieldFits
+  is-field l h =
+      let inside = and-both _ _ h in
+      let whole = and-both _ _ (inside .0) in
+      let greatest = and-both _ _ (whole .0) in
+      let least = and-both _ _ (greatest .0) in
+      let tag = and-both _ _ (least .0) in
+      record {
+        long = leb-true _ _ (tag .0);
+        tag = eqb-true _ _ (tag .1);
+        least = leb-true _ _ (least .1);
+        greatest = leb-true _ _ (greatest .1);
+        whole = eqb-true _ _ (whole .1);
+        inside = leb-true _ _ (inside .1);
+      }
+
+  pub field-is : (l : List ℕ) → IsField (rowOf rs t) t l → fieldFits rs t l ≡ true
+  unfolding fieldFits
+  field-is l f =
+      simp (le-leb 3 (length l) (f .long), eq-eqb (getD l 0 0) t (f .tag), le-leb _ _ (f .least), le-leb _ _ (f .greatest), eq-eqb _ _ (f .whole), le-leb _ _ (f .inside))
+
+-- ---- a field that was written
+
+module _ (t : ℕ) (c r : List ℕ) (h : length c < 65536) where
+  lengthOf-field : lengthOf (field t c ++ r) ≡ length c
+  lengthOf-field = number-bytes 2 (length c) h
+
+  drop-field : drop (3 + lengthOf (field t c ++ r)) (field t c ++ r) ≡ r
+  drop-field = rw lengthOf-field (sym (drop-drop (length c) 3 (field t c ++ r)) ∙ drop-at c r (length c) refl)
+
+module _ (rs : List Row) (u : usable rs ≡ true) (t : ℕ) (v r : List ℕ) (k : Content (rowOf rs t) v) where
+  abbrev w : ℕ
+  w = rowOf rs t .width
+
+  line : Usable (rowOf rs t)
+  unfolding rowOf
+  line = usable-at rs u (t - 1)
+
+  fits-two : length (allBytes w v) < 65536
+  fits-two = let x = line in omega (arith, length-allBytes w v)
+
+  fieldFits-field : fieldFits rs t (field t (allBytes w v) ++ r) ≡ true
+  fieldFits-field =
+      let e : lengthOf (field t (allBytes w v) ++ r) ≡ w * length v = lengthOf-field t (allBytes w v) r fits-two ∙ length-allBytes w v in
+      field-is rs t (field t (allBytes w v) ++ r)
+      (record {
+        long = omega arith;
+        tag = refl;
+        least = rw e (k .least);
+        greatest = rw e (k .greatest);
+        whole = rw e (mul-mod-right w (length v));
+        inside = rw (e, length-append, length-allBytes) (omega arith);
+      })
+
+  firstNumbers-field : firstNumbers rs t (field t (allBytes w v) ++ r) ≡ v
+  firstNumbers-field =
+      let e : lengthOf (field t (allBytes w v) ++ r) ≡ w * length v = lengthOf-field t (allBytes w v) r fits-two ∙ length-allBytes w v in
+      rw (e, mul-div-right (length v) (line .width)) (allNumbers-allBytes w v r (k .each))
+
+-- ---- a field that was read
+
+module _ (rs : List Row) (u : usable rs ≡ true) (t : ℕ) (l : List ℕ) (b : Bytes l) (f : IsField (rowOf rs t) t l) where
+  abbrev width : ℕ
+  width = rowOf rs t .width
+
+  abbrev count : ℕ
+  count = lengthOf l / width
+
+  -- the count of numbers, and their bytes
+  counted : width * count ≡ lengthOf l
+  counted = omega (arith, div-add-mod (lengthOf l) width, f .whole)
+
+  room : width * count ≤ length (drop 3 l)
+  room = rw (counted, length-drop) (omega (arith, f .inside))
+
+  content : Content (rowOf rs t) (firstNumbers rs t l)
+  content =
+      record {
+        least = rw (length-allNumbers, counted) (f .least);
+        greatest = rw (length-allNumbers, counted) (f .greatest);
+        each = each-allNumbers width count (drop 3 l) room (each-drop 3 b);
+      }
+
+  split-3 : (l : List ℕ) → 3 ≤ length l → getD l 0 0 ∷ take 2 (drop 1 l) ++ drop 3 l ≡ l
+  split-3 [] h = absurd (omega arith)
+  split-3 (x ∷ []) h = absurd (omega arith)
+  split-3 (x ∷ y ∷ []) h = absurd (omega arith)
+  split-3 (x ∷ y ∷ z ∷ r) h = refl
+
+  field-firstNumbers : field t (allBytes width (firstNumbers rs t l)) ++ drop (3 + lengthOf l) l ≡ l
+  field-firstNumbers =
+      let n = lengthOf l in
+      let front = take 2 (drop 1 l) in
+      let content-is : allBytes width (firstNumbers rs t l) ≡ take n (drop 3 l) =
+      allBytes-allNumbers width count (drop 3 l) room (each-drop 3 b) ∙ ap (λ k. take k (drop 3 l)) counted in
+      let long : length (take n (drop 3 l)) ≡ n = length-take-le n (drop 3 l) (rw length-drop (omega (arith, f .inside))) in
+      let two : length front ≡ 2 = length-take-le 2 (drop 1 l) (rw length-drop (omega (arith, f .long))) in
+      let length-is : bytes 2 n ≡ front = subst (λ k. bytes k n ≡ front) two (bytes-number front (each-take 2 (each-drop 1 b))) in
+      rw (content-is, long)
+      (ap (λ q. t ∷ (q ++ take n (drop 3 l)) ++ drop (3 + n) l) length-is
+      ∙ rw
+      (append-assoc front (take n (drop 3 l)) (drop (3 + n) l), ← drop-drop n 3 l, take-append-drop n (drop 3 l), ← f .tag)
+      (split-3 l (f .long)))
+
+-- ---- the fields of any tags
+
+-- the numbers vs can stand in fields of the tags ts
+abbrev pub Contents : List Row → List ℕ → List (List ℕ) → Type 0
+Contents rs [] [] = Unit {0}
+Contents rs [] (v ∷ vs) = ⊥
+Contents rs (t ∷ ts) [] = ⊥
+Contents rs (t ∷ ts) (v ∷ vs) = Content (rowOf rs t) v × Contents rs ts vs
+
+module _ (rs : List Row) (u : usable rs ≡ true) where
+  abbrev written : ℕ → List ℕ → List ℕ
+  written t v = field t (allBytes (rowOf rs t .width) v)
+
+  drop-written : (t : ℕ) (v r : List ℕ) → Content (rowOf rs t) v → drop (3 + lengthOf (written t v ++ r)) (written t v ++ r) ≡ r
+  drop-written t v r k = drop-field t (allBytes (rowOf rs t .width) v) r (fits-two rs u t v r k)
+
+  pub fits-print : (ts : List ℕ) (vs : List (List ℕ)) → Contents rs ts vs → fits rs ts (print rs ts vs) ≡ true
+  fits-print [] [] k = refl
+  fits-print [] (v ∷ vs) k = absurd k
+  fits-print (t ∷ ts) [] k = absurd k
+  fits-print (t ∷ ts) (v ∷ vs) k =
+      rw (fieldFits-field rs u t v (print rs ts vs) (k .0), drop-written t v (print rs ts vs) (k .0)) (fits-print ts vs (k .1))
+
+  pub numbers-print : (ts : List ℕ) (vs : List (List ℕ)) → Contents rs ts vs → numbers rs ts (print rs ts vs) ≡ vs
+  numbers-print [] [] k = refl
+  numbers-print [] (v ∷ vs) k = absurd k
+  numbers-print (t ∷ ts) [] k = absurd k
+  numbers-print (t ∷ ts) (v ∷ vs) k =
+      rw (firstNumbers-field rs u t v (print rs ts vs) (k .0), drop-written t v (print rs ts vs) (k .0), numbers-print ts vs (k .1))
+
+  pub print-numbers : (ts l : List ℕ) → Bytes l → fits rs ts l ≡ true → print rs ts (numbers rs ts l) ≡ l
+  print-numbers [] [] b h = refl
+  print-numbers [] (x ∷ l) b h = absurd (false≢true (sym (eqb·suc-zero (length l)) ∙ h))
+  print-numbers (t ∷ ts) l b h =
+      let k = and-both _ _ h in
+      rw (print-numbers ts (drop (3 + lengthOf l) l) (each-drop (3 + lengthOf l) b) (k .1))
+      (field-firstNumbers rs u t l b (is-field rs t l (k .0)))
+
+  pub contents-numbers : (ts l : List ℕ) → Bytes l → fits rs ts l ≡ true → Contents rs ts (numbers rs ts l)
+  contents-numbers [] l b h = tt
+  contents-numbers (t ∷ ts) l b h =
+      let k = and-both _ _ h in
+      (content rs u t l b (is-field rs t l (k .0)), contents-numbers ts (drop (3 + lengthOf l) l) (each-drop (3 + lengthOf l) b) (k .1))
+
+-- ---- the bytes of the fields, and how many
+
+abbrev pub size : List Row → List ℕ → List (List ℕ) → ℕ
+size rs [] vs = 0
+size rs (t ∷ ts) [] = 0
+size rs (t ∷ ts) (v ∷ vs) = 3 + rowOf rs t .width * length v + size rs ts vs
+
+pub length-print : (rs : List Row) (ts : List ℕ) (vs : List (List ℕ)) → length (print rs ts vs) ≡ size rs ts vs
+length-print rs [] vs = refl
+length-print rs (t ∷ ts) [] = refl
+length-print rs (t ∷ ts) (v ∷ vs) =
+    let w = rowOf rs t .width in
+    omega (arith, length-append (allBytes w v) (print rs ts vs), length-allBytes w v, length-print rs ts vs)
+
+pub each-tagsFrom : (t : ℕ) (rs : List Row) (k : ℕ) → t + length rs ≤ 256 → Bytes (tagsFrom t rs k)
+each-tagsFrom t [] k h = nil
+each-tagsFrom t (r ∷ rs) k h = go (among k (r .kinds)) (each-tagsFrom (suc t) rs k (omega arith))
+  where
+    go : (b : Bool) → Bytes (tagsFrom (suc t) rs k) → Bytes (cond b (t ∷ tagsFrom (suc t) rs k) (tagsFrom (suc t) rs k))
+    go true e = cons {x = t} (omega arith) e
+    go false e = e
+
+module _ (rs : List Row) (u : usable rs ≡ true) where
+  pub each-print : (ts : List ℕ) (vs : List (List ℕ)) → Bytes ts → Contents rs ts vs → Bytes (print rs ts vs)
+  each-print [] vs b k = nil
+  each-print (t ∷ ts) [] b k = nil
+  each-print (t ∷ ts) (v ∷ vs) b k =
+      let w = rowOf rs t .width in
+      cons (each-head b)
+      (each-++
+      (each-++ (each-bytes 2 (length (allBytes w v)) (fits-two rs u t v [] (k .0))) (each-allBytes w v (k .0 .each)))
+      (each-print ts vs (each-tail b) (k .1)))

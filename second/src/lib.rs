@@ -1,0 +1,10 @@
+//! The independent second program: frames, one unit, and the bench language, in plain Rust.
+
+pub mod drawing;
+pub mod engine;
+pub mod frames;
+pub mod generate;
+pub mod other;
+pub mod random;
+pub mod script;
+pub mod trace;

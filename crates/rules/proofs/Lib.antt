@@ -6,3 +6,7 @@ pub mod MessageLaws
 pub mod StepsLaws
 pub mod CallsLaws
 pub mod Cases
+pub mod PlacesLaws
+pub mod SoundLaws
+pub mod SumsLaws
+pub mod SlotsLaws

@@ -1,0 +1,143 @@
+-- Counting over the places of a list, which is blind to where in the list a place stands.
+use mathlib.Core.Bool.{Bool, true, false, cond, not, _&&_, false≢true}
+use mathlib.Core.List.{List, [], _∷_, _++_, tail, nil≢cons, head-eq-of-cons-eq, List·Memᴰ, List·Memᴰ·head, List·Memᴰ·tail}
+use mathlib.Core.Path.{_≡_, refl, sym, ap, subst, _∙_}
+use Prim.Native.Nat.{ℕ, _+_, _≤_}
+use native.Mathlib.Omega.{arith}
+use lib.Dec.{eqb}
+use Rattle.rules.specs.Maps.{all}
+use Rattle.rules.specs.State.{Place, State, taken, from}
+use Rattle.rules.specs.Message.{Message}
+use Rattle.rules.specs.Steps.{placed, stored, precedes, insert, withoutOldest, preacked, preackTo, moved, accepted, withoutTaken}
+use Rattle.rules.specs.Sound.{samePlace, once}
+use Rattle.rules.proofs.MapsLaws.{Eq?, same, other, eq?, and-left, and-right, and-intro}
+use Rattle.rules.proofs.StepsLaws.{Due, Ready, preackTo-all, confirm-all}
+
+-- ---- a test of each of a list, by its members
+
+module _ {A : Type 0} (t : A → Bool) where
+  pub all-mem : {x : A} {l : List A} → all t l ≡ true → List·Memᴰ x l → t x ≡ true
+  all-mem h (List·Memᴰ·head {x = y} {xs = l} e) = subst (λ z. t z ≡ true) (sym e) (and-left (t y) (all t l) h)
+  all-mem h (List·Memᴰ·tail {x = y} {xs = l} m) = all-mem (and-right (t y) (all t l) h) m
+
+  pub mem-all : (l : List A) → ((x : A) → List·Memᴰ x l → t x ≡ true) → all t l ≡ true
+  mem-all [] h = refl
+  mem-all (x ∷ l) h = and-intro (t x) (all t l) (h x (List·Memᴰ·head refl)) (mem-all l (λ y m. h y (List·Memᴰ·tail m)))
+
+-- ---- the sum of a number of each place
+
+module _ (f : Place → ℕ) where
+  abbrev pub tally : List Place → ℕ
+  tally [] = 0
+  tally (p ∷ l) = f p + tally l
+
+  pub tally-append : (l r : List Place) → tally (l ++ r) ≡ tally l + tally r
+  tally-append [] r = omega arith
+  tally-append (p ∷ l) r = let ih = tally-append l r in omega arith
+
+  pub tally-insert : (p : Place) (l : List Place) → tally (insert p l) ≡ f p + tally l
+  tally-insert p [] = refl
+  tally-insert p (q ∷ l) = go (precedes p q) (tally-insert p l)
+    where
+      go : (t : Bool) → tally (insert p l) ≡ f p + tally l → tally (cond t (p ∷ q ∷ l) (q ∷ insert p l)) ≡ f p + (f q + tally l)
+      go true ih = refl
+      go false ih = omega arith
+
+  -- what is left without the oldest of a sender, and that oldest
+  pub tally-withoutOldest : (j : ℕ) (l : List Place) (p : Place) (ps : List Place) → from j l ≡ p ∷ ps → f p + tally (withoutOldest j l) ≡ tally l
+  unfolding from
+  tally-withoutOldest j [] p ps e = absurd (nil≢cons e)
+  tally-withoutOldest j (q ∷ l) p ps e = go (eqb (q .src) j) e (λ x. tally-withoutOldest j l p ps x)
+    where
+      go : (t : Bool) → cond t (q ∷ from j l) (from j l) ≡ p ∷ ps → (from j l ≡ p ∷ ps → f p + tally (withoutOldest j l) ≡ tally l)
+          → f p + tally (cond t l (q ∷ withoutOldest j l)) ≡ f q + tally l
+      go true e ih = ap (λ z. f z + tally l) (sym (head-eq-of-cons-eq e))
+      go false e ih = omega (arith, ih e)
+
+  pub tally-taken : (s : State) → tally (taken s) ≡ tally (s .confirmed) + tally (s .ordered) + tally (s .waiting)
+  tally-taken s = omega (arith, tally-append (s .confirmed ++ s .ordered) (s .waiting), tally-append (s .confirmed) (s .ordered))
+
+  pub tally-preacked : (j : ℕ) (s : State) (p : Place) (ps : List Place) → Due j s p ps → tally (taken (preacked s p)) ≡ tally (taken s)
+  unfolding preacked
+  tally-preacked j s p ps due =
+      omega (
+        arith,
+        tally-taken s,
+        tally-taken (preacked s p),
+        tally-insert p (s .ordered),
+        tally-withoutOldest (p .src) (s .waiting) p ps (subst (λ k. from k (s .waiting) ≡ p ∷ ps) (sym (due .src)) (due .oldest)),
+      )
+
+  pub tally-moved : (s : State) (p : Place) (ps : List Place) → Ready s p ps → tally (taken (moved s p)) ≡ tally (taken s)
+  unfolding moved
+  tally-moved s p ps ready =
+      omega (arith, tally-taken s, tally-taken (moved s p), tally-append (s .confirmed) (p ∷ []), ap tally (ready .head), ap (λ l. tally (tail l)) (ready .head))
+
+  pub tally-stored : (s : State) (p : Message) → tally (taken (stored s p)) ≡ f (placed s p) + tally (taken s)
+  unfolding stored
+  tally-stored s p = omega (arith, tally-taken s, tally-taken (stored s p), tally-append (s .waiting) (placed s p ∷ []))
+
+  -- settling moves places between the lists, and takes or frees none
+  pub tally-accepted : (s : State) (p : Message) → tally (taken (accepted s p)) ≡ f (placed s p) + tally (taken s)
+  unfolding accepted
+  tally-accepted s p =
+      confirm-all Same (λ t q qs h ready. tally-moved t q qs ready ∙ h) (preackTo (s .n) (stored s p))
+      (preackTo-all Same (λ j t q qs h due. tally-preacked j t q qs due ∙ h) (s .n) (stored s p) (tally-stored s p) .0)
+    where
+      Same : State → Type 0
+      Same t = tally (taken t) ≡ f (placed s p) + tally (taken s)
+
+  pub tally-withoutTaken : (s : State) (p : Place) (ps : List Place) → s .confirmed ≡ p ∷ ps → f p + tally (taken (withoutTaken s)) ≡ tally (taken s)
+  unfolding withoutTaken
+  tally-withoutTaken s p ps e = omega (arith, tally-taken s, tally-taken (withoutTaken s), ap tally e, ap (λ l. tally (tail l)) e)
+
+-- how often the place (j, k) stands in the list
+abbrev pub stands : ℕ → ℕ → Place → Bool
+stands j k q = eqb j (q .src) && eqb k (q .slot)
+
+abbrev pub count : ℕ → ℕ → List Place → ℕ
+count j k l = tally (λ q. cond (stands j k q) 1 0) l
+
+-- ---- no place twice
+
+module _ (p : Place) where
+  apart-count : (l : List Place) → all (λ q. not (samePlace p q)) l ≡ true → count (p .src) (p .slot) l ≡ 0
+  apart-count [] h = refl
+  apart-count (q ∷ l) h = go (samePlace p q) h (λ x. apart-count l x)
+    where
+      go : (t : Bool) → not t && all (λ q. not (samePlace p q)) l ≡ true → (all (λ q. not (samePlace p q)) l ≡ true → count (p .src) (p .slot) l ≡ 0)
+          → cond t 1 0 + count (p .src) (p .slot) l ≡ 0
+      go true h ih = absurd (false≢true h)
+      go false h ih = omega (arith, ih h)
+
+  count-apart : (l : List Place) → count (p .src) (p .slot) l ≡ 0 → all (λ q. not (samePlace p q)) l ≡ true
+  count-apart [] h = refl
+  count-apart (q ∷ l) h = go (samePlace p q) h (λ x. count-apart l x)
+    where
+      go : (t : Bool) → cond t 1 0 + count (p .src) (p .slot) l ≡ 0 → (count (p .src) (p .slot) l ≡ 0 → all (λ q. not (samePlace p q)) l ≡ true)
+          → not t && all (λ q. not (samePlace p q)) l ≡ true
+      go true h ih = absurd (omega arith)
+      go false h ih = ih (omega arith)
+
+pub once-count : (l : List Place) → once l ≡ true → (j k : ℕ) → count j k l ≤ 1
+once-count [] h j k = omega arith
+once-count (p ∷ l) h j k = go (eq? j (p .src)) (eq? k (p .slot)) (once-count l (and-right (all (λ q. not (samePlace p q)) l) (once l) h) j k)
+  where
+    none : count (p .src) (p .slot) l ≡ 0
+    none = apart-count p l (and-left (all (λ q. not (samePlace p q)) l) (once l) h)
+
+    go : {a b : Bool} → Eq? j (p .src) a → Eq? k (p .slot) b → count j k l ≤ 1 → cond (a && b) 1 0 + count j k l ≤ 1
+    go (same x) (same y) ih = rw (x, y) (omega (arith, none))
+    go (same x) (other y) ih = omega arith
+    go (other x) y ih = omega arith
+
+pub count-once : (l : List Place) → ((j k : ℕ) → count j k l ≤ 1) → once l ≡ true
+count-once [] h = refl
+count-once (p ∷ l) h =
+    and-intro (all (λ q. not (samePlace p q)) l) (once l) (count-apart p l (go (eq? (p .src) (p .src)) (eq? (p .slot) (p .slot)) (h (p .src) (p .slot))))
+    (count-once l (λ j k. omega (arith, h j k)))
+  where
+    go : {a b : Bool} → Eq? (p .src) (p .src) a → Eq? (p .slot) (p .slot) b → cond (a && b) 1 0 + count (p .src) (p .slot) l ≤ 1 → count (p .src) (p .slot) l ≡ 0
+    go (same x) (same y) e = omega arith
+    go (same x) (other y) e = absurd (y refl)
+    go (other x) y e = absurd (x refl)

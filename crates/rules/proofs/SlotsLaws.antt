@@ -1,0 +1,212 @@
+-- Slots and places by double counting: a sender that is not full has a free slot, and a sound unit has at most 4W places for each sender and 4Wn in all.
+use mathlib.Core.Bool.{Bool, true, false, cond, _&&_, _||_}
+use mathlib.Core.List.{List, [], _∷_, map, List·Memᴰ}
+use mathlib.Core.Path.{_≡_, refl, sym, ap, subst, _∙_}
+use Prim.Native.Nat.{ℕ, zero, suc, _+_, _*_, _≤_, _<_}
+use native.Mathlib.Omega.{arith}
+use lib.Dec.{eqb, ltb}
+use lib.ListN.{length}
+use borrow.Author.Tests.{leb-false, leb-true, ltb-true, ltb-false, lt-ltb}
+use Rattle.rules.specs.Maps.{among}
+use Rattle.rules.specs.Message.{Message}
+use Rattle.rules.specs.State.{Place, State, taken, from, places, free}
+use Rattle.rules.specs.Steps.{firstFree, freeSlot, placed}
+use Rattle.rules.specs.Calls.{full}
+use Rattle.rules.proofs.MapsLaws.{Lt?, lt, ge, lt?, Eq?, same, other, eq?}
+use Rattle.rules.proofs.PlacesLaws.{tally, stands, count}
+use Rattle.rules.proofs.SoundLaws.{Sound}
+use Rattle.rules.proofs.SumsLaws.{sum, sum-zero, sum-most, sum-least, sum-hit, sum-once, sum-gap, sum-tally, tally-le}
+
+-- ---- lengths as counts
+
+pub length-tally : (l : List Place) → length l ≡ tally (λ p. 1) l
+length-tally [] = refl
+length-tally (p ∷ l) = omega (arith, length-tally l)
+
+pub from-tally : (j : ℕ) (l : List Place) → length (from j l) ≡ tally (λ p. cond (eqb j (p .src)) 1 0) l
+unfolding from
+from-tally j [] = refl
+from-tally j (p ∷ l) = go (eq? j (p .src)) (eq? (p .src) j) (from-tally j l)
+  where
+    go : {a b : Bool} → Eq? j (p .src) a → Eq? (p .src) j b → length (from j l) ≡ tally (λ p. cond (eqb j (p .src)) 1 0) l
+        → length (cond b (p ∷ from j l) (from j l)) ≡ cond a 1 0 + tally (λ p. cond (eqb j (p .src)) 1 0) l
+    go (same x) (same y) ih = omega arith
+    go (same x) (other y) ih = absurd (y (sym x))
+    go (other x) (same y) ih = absurd (x (sym y))
+    go (other x) (other y) ih = omega arith
+
+-- ---- the slots of one sender
+
+module _ (j m : ℕ) where
+  slots-most : (p : Place) → sum 0 m (λ k. cond (stands j k p) 1 0) ≤ cond (eqb j (p .src)) 1 0
+  slots-most p = go (eqb j (p .src))
+    where
+      go : (t : Bool) → sum 0 m (λ k. cond (t && eqb k (p .slot)) 1 0) ≤ cond t 1 0
+      go true = sum-hit 0 m (p .slot)
+      go false = omega (arith, sum-zero 0 m)
+
+  slots-all : (p : Place) → p .slot < m → cond (eqb j (p .src)) 1 0 ≤ sum 0 m (λ k. cond (stands j k p) 1 0)
+  slots-all p h = go (eqb j (p .src))
+    where
+      go : (t : Bool) → cond t 1 0 ≤ sum 0 m (λ k. cond (t && eqb k (p .slot)) 1 0)
+      go true = omega (arith, sum-once 0 m (p .slot) (omega arith) (omega arith))
+      go false = omega arith
+
+  -- those of the first m slots that are taken are at most the sender's places, and all of them where no slot is past m
+  pub counts-most : (l : List Place) → sum 0 m (λ k. count j k l) ≤ length (from j l)
+  counts-most l =
+      omega (
+        arith,
+        sum-tally 0 m (λ k p. cond (stands j k p) 1 0) l,
+        from-tally j l,
+        tally-le (λ p. sum 0 m (λ k. cond (stands j k p) 1 0)) (λ p. cond (eqb j (p .src)) 1 0) l (λ p x. slots-most p),
+      )
+
+  pub counts-all : (l : List Place) → ((p : Place) → List·Memᴰ p l → p .slot < m) → length (from j l) ≤ sum 0 m (λ k. count j k l)
+  counts-all l h =
+      omega (
+        arith,
+        sum-tally 0 m (λ k p. cond (stands j k p) 1 0) l,
+        from-tally j l,
+        tally-le (λ p. cond (eqb j (p .src)) 1 0) (λ p. sum 0 m (λ k. cond (stands j k p) 1 0)) l (λ p x. slots-all p (h p x)),
+      )
+
+-- ---- the first free slot
+
+module _ (l : List ℕ) where
+  firstFree-le : (i m : ℕ) → firstFree l i m ≤ i + m
+  firstFree-le i zero = omega arith
+  firstFree-le i (suc m) = go (among i l) (firstFree-le (suc i) m)
+    where
+      go : (t : Bool) → firstFree l (suc i) m ≤ suc i + m → cond t (firstFree l (suc i) m) i ≤ i + suc m
+      go true ih = omega arith
+      go false ih = omega arith
+
+  firstFree-free : (i m : ℕ) → firstFree l i m < i + m → among (firstFree l i m) l ≡ false
+  firstFree-free i zero h = absurd (omega arith)
+  firstFree-free i (suc m) h = go (among i l) refl h (λ x. firstFree-free (suc i) m x)
+    where
+      go : (t : Bool) → among i l ≡ t → cond t (firstFree l (suc i) m) i < i + suc m → (firstFree l (suc i) m < suc i + m → among (firstFree l (suc i) m) l ≡ false)
+          → among (cond t (firstFree l (suc i) m) i) l ≡ false
+      go true e h ih = ih (omega arith)
+      go false e h ih = e
+
+  firstFree-past : (i m k : ℕ) → i ≤ k → k < firstFree l i m → among k l ≡ true
+  firstFree-past i zero k a b = absurd (omega arith)
+  firstFree-past i (suc m) k a b = go (among i l) refl b (λ x y. firstFree-past (suc i) m k x y) (eq? i k)
+    where
+      go : (t : Bool) → among i l ≡ t → k < cond t (firstFree l (suc i) m) i → (suc i ≤ k → k < firstFree l (suc i) m → among k l ≡ true) → {u : Bool} → Eq? i k u → among k l ≡ true
+      go true e b ih (same x) = subst (λ z. among z l ≡ true) x e
+      go true e b ih (other x) = ih (omega arith) b
+      go false e b ih x = absurd (omega arith)
+
+-- a slot is among the sender's where its place stands in the list
+pub among-count : (j k : ℕ) (l : List Place) → among k (map (λ (p : Place). p .slot) (from j l)) ≡ ltb 0 (count j k l)
+unfolding from
+among-count j k [] = refl
+among-count j k (p ∷ l) = go (eq? j (p .src)) (eq? (p .src) j) (among-count j k l)
+  where
+    Rest : Type 0
+    Rest = among k (map (λ (p : Place). p .slot) (from j l)) ≡ ltb 0 (count j k l)
+
+    hit : {c : Bool} → Eq? k (p .slot) c → Rest → c || among k (map (λ (p : Place). p .slot) (from j l)) ≡ ltb 0 (cond c 1 0 + count j k l)
+    hit (same x) ih = sym (lt-ltb 0 (1 + count j k l) (omega arith))
+    hit (other x) ih = ih ∙ ap (λ z. ltb 0 z) (let e : count j k l ≡ 0 + count j k l = omega arith in e)
+
+    go : {a b : Bool} → Eq? j (p .src) a → Eq? (p .src) j b → Rest
+        → among k (map (λ (p : Place). p .slot) (cond b (p ∷ from j l) (from j l))) ≡ ltb 0 (cond (a && eqb k (p .slot)) 1 0 + count j k l)
+    go (same x) (same y) ih = hit (eq? k (p .slot)) ih
+    go (same x) (other y) ih = absurd (y (sym x))
+    go (other x) (same y) ih = absurd (x (sym y))
+    go (other x) (other y) ih = ih ∙ ap (λ z. ltb 0 z) (let e : count j k l ≡ 0 + count j k l = omega arith in e)
+
+-- ---- a unit's places
+
+module _ (s : State) (j : ℕ) where
+  pub freeSlot-le : freeSlot s j ≤ 4 * s .w
+  unfolding freeSlot
+  freeSlot-le = omega (arith, firstFree-le (map (λ (p : Place). p .slot) (from j (taken s))) 0 (4 * s .w))
+
+  -- where the slot found is one of the 4W, no place stands there
+  pub freeSlot-count : freeSlot s j < 4 * s .w → count j (freeSlot s j) (taken s) ≡ 0
+  unfolding freeSlot
+  freeSlot-count h =
+      let none = firstFree-free (map (λ (p : Place). p .slot) (from j (taken s))) 0 (4 * s .w) (omega arith) in
+      omega (arith, ltb-false 0 (count j (freeSlot s j) (taken s)) (sym (among-count j (freeSlot s j) (taken s)) ∙ none))
+
+  -- and each slot before it is taken
+  pub freeSlot-past : (k : ℕ) → k < freeSlot s j → 1 ≤ count j k (taken s)
+  unfolding freeSlot
+  freeSlot-past k h =
+      ltb-true 0 (count j k (taken s)) (sym (among-count j k (taken s)) ∙ firstFree-past (map (λ (p : Place). p .slot) (from j (taken s))) 0 (4 * s .w) k (omega arith) h)
+
+  -- a sender that is not full has a free slot
+  pub freeSlot-lt : full s j ≡ false → freeSlot s j < 4 * s .w
+  unfolding full
+  freeSlot-lt h = go (lt? (freeSlot s j) (4 * s .w))
+    where
+      room : length (from j (taken s)) < 4 * s .w
+      room = leb-false (4 * s .w) (length (from j (taken s))) h
+
+      go : {t : Bool} → Lt? (freeSlot s j) (4 * s .w) t → freeSlot s j < 4 * s .w
+      go (lt x) = x
+      go (ge x) =
+          absurd (omega (arith, room, counts-most j (4 * s .w) (taken s), sum-least 0 (4 * s .w) (λ k. count j k (taken s)) 1 (λ k a b. freeSlot-past k (omega arith))))
+
+-- a message goes to a place that is not taken
+pub placed-free : (s : State) (p : Message) → full s (p .src) ≡ false → count (placed s p .src) (placed s p .slot) (taken s) ≡ 0
+unfolding placed
+placed-free s p room = freeSlot-count s (p .src) (freeSlot-lt s (p .src) room)
+
+-- ---- a sound unit's places
+
+module _ (s : State) (f : Sound s) where
+  -- at most 4W places of each sender
+  pub from-most : (j : ℕ) → length (from j (taken s)) ≤ 4 * s .w
+  from-most j =
+      omega (
+        arith,
+        counts-all j (4 * s .w) (taken s) (λ p m. f .held p m .slot),
+        sum-most 0 (4 * s .w) (λ k. count j k (taken s)) 1 (λ k a b. f .once j k),
+      )
+
+  -- and at most 4Wn in all
+  pub taken-most : length (taken s) ≤ places s
+  taken-most =
+      omega (
+        arith,
+        length-tally (taken s),
+        senders,
+        sum-tally 1 (s .n) (λ j p. cond (eqb j (p .src)) 1 0) (taken s),
+        sum-most 1 (s .n) (λ j. tally (λ p. cond (eqb j (p .src)) 1 0) (taken s)) (4 * s .w) (λ j a b. omega (arith, from-tally j (taken s), from-most j)),
+      )
+    where
+      senders : tally (λ p. 1) (taken s) ≤ tally (λ p. sum 1 (s .n) (λ j. cond (eqb j (p .src)) 1 0)) (taken s)
+      senders =
+          tally-le (λ p. 1) (λ p. sum 1 (s .n) (λ j. cond (eqb j (p .src)) 1 0)) (taken s)
+          (λ p m. omega (arith, sum-once 1 (s .n) (p .src) (f .held p m .src-low) (omega (arith, f .held p m .src-high))))
+
+  -- so the free places are the others
+  pub free-taken : free s + length (taken s) ≡ places s
+  unfolding free
+  free-taken = omega (arith, taken-most)
+
+  -- a sender is full exactly where no slot is free
+  pub full-freeSlot : (j : ℕ) → full s j ≡ eqb (freeSlot s j) (4 * s .w)
+  unfolding full
+  full-freeSlot j = go (full s j) refl (eq? (freeSlot s j) (4 * s .w))
+    where
+      -- one free slot leaves fewer than 4W places
+      gap : freeSlot s j < 4 * s .w → length (from j (taken s)) < 4 * s .w
+      gap h =
+          omega (
+            arith,
+            counts-all j (4 * s .w) (taken s) (λ p m. f .held p m .slot),
+            sum-gap 0 (4 * s .w) (λ k. count j k (taken s)) (freeSlot s j) (omega arith) (omega arith) (freeSlot-count s j h) (f .once j),
+          )
+
+      go : (t : Bool) → full s j ≡ t → {u : Bool} → Eq? (freeSlot s j) (4 * s .w) u → t ≡ u
+      go true e (same x) = refl
+      go true e (other x) = absurd (omega (arith, leb-true (4 * s .w) (length (from j (taken s))) e, gap (omega (arith, freeSlot-le s j))))
+      go false e (same x) = absurd (omega (arith, freeSlot-lt s j e))
+      go false e (other x) = refl

@@ -10,3 +10,14 @@ pub mod PlacesLaws
 pub mod SoundLaws
 pub mod SumsLaws
 pub mod SlotsLaws
+pub mod ChecksLaws
+pub mod CallCases
+pub mod Demand1Laws
+pub mod AcceptedLaws
+pub mod RequestLaws
+pub mod OrderLaws
+pub mod KeepsSound
+pub mod SendLaws
+pub mod OpeningLaws
+pub mod TakenLaws
+pub mod KeptLaws

@@ -98,6 +98,9 @@ module _ (t : ℕ → ℕ → ℕ) (j : ℕ) (v : ℕ → ℕ) where
       go (same e) = subst (λ x. P k x (v k)) (sym e) (h k)
       go (other x) = o k c x
 
+  pub column-same : (k : ℕ) → column t j v k j ≡ v k
+  column-same k = column-all (λ k c x. c ≡ j → x ≡ v k) (λ k e. refl) (λ k c d e. absurd (d e)) k j refl
+
 -- ---- units
 
 pub units-in : (n : ℕ) (f : ℕ → ℕ) (k : ℕ) → 1 ≤ k → k ≤ n → units n f k ≡ f k

@@ -1,10 +1,11 @@
 -- Counting over the places of a list, which is blind to where in the list a place stands.
-use mathlib.Core.Bool.{Bool, true, false, cond, not, _&&_, false≢true}
+use mathlib.Core.Bool.{Bool, true, false, cond, not, _&&_, false≢true, Bool·not-not}
 use mathlib.Core.List.{List, [], _∷_, _++_, tail, nil≢cons, head-eq-of-cons-eq, List·Memᴰ, List·Memᴰ·head, List·Memᴰ·tail}
-use mathlib.Core.Path.{_≡_, refl, sym, ap, subst, _∙_}
+use mathlib.Core.Path.{_≡_, refl, sym, ap, subst, _∙_, fun-ext}
 use Prim.Native.Nat.{ℕ, _+_, _≤_}
 use native.Mathlib.Omega.{arith}
 use lib.Dec.{eqb}
+use borrow.Author.Tests.{eq-eqb}
 use Rattle.rules.specs.Maps.{all}
 use Rattle.rules.specs.State.{Place, State, taken, from}
 use Rattle.rules.specs.Message.{Message}
@@ -23,6 +24,10 @@ module _ {A : Type 0} (t : A → Bool) where
   pub mem-all : (l : List A) → ((x : A) → List·Memᴰ x l → t x ≡ true) → all t l ≡ true
   mem-all [] h = refl
   mem-all (x ∷ l) h = and-intro (t x) (all t l) (h x (List·Memᴰ·head refl)) (mem-all l (λ y m. h y (List·Memᴰ·tail m)))
+
+abbrev pub bit : Bool → ℕ
+bit true = 1
+bit false = 0
 
 -- ---- the sum of a number of each place
 
@@ -91,33 +96,40 @@ module _ (f : Place → ℕ) where
   unfolding withoutTaken
   tally-withoutTaken s p ps e = omega (arith, tally-taken s, tally-taken (withoutTaken s), ap tally e, ap (λ l. tally (tail l)) e)
 
+-- the places that fail a test, counted
+module _ (t : Place → Bool) where
+  pub all-tally : (l : List Place) → all t l ≡ true → tally (λ p. bit (not (t p))) l ≡ 0
+  all-tally [] h = refl
+  all-tally (p ∷ l) h = go (t p) h (λ x. all-tally l x)
+    where
+      go : (b : Bool) → b && all t l ≡ true → (all t l ≡ true → tally (λ p. bit (not (t p))) l ≡ 0) → bit (not b) + tally (λ p. bit (not (t p))) l ≡ 0
+      go true h ih = omega (arith, ih h)
+      go false h ih = absurd (false≢true h)
+
+  pub tally-all : (l : List Place) → tally (λ p. bit (not (t p))) l ≡ 0 → all t l ≡ true
+  tally-all [] h = refl
+  tally-all (p ∷ l) h = go (t p) h (λ x. tally-all l x)
+    where
+      go : (b : Bool) → bit (not b) + tally (λ p. bit (not (t p))) l ≡ 0 → (tally (λ p. bit (not (t p))) l ≡ 0 → all t l ≡ true) → b && all t l ≡ true
+      go true h ih = ih (omega arith)
+      go false h ih = absurd (omega arith)
+
 -- how often the place (j, k) stands in the list
 abbrev pub stands : ℕ → ℕ → Place → Bool
 stands j k q = eqb j (q .src) && eqb k (q .slot)
 
 abbrev pub count : ℕ → ℕ → List Place → ℕ
-count j k l = tally (λ q. cond (stands j k q) 1 0) l
+count j k l = tally (λ q. bit (stands j k q)) l
 
 -- ---- no place twice
 
+-- the places other than p
 module _ (p : Place) where
   apart-count : (l : List Place) → all (λ q. not (samePlace p q)) l ≡ true → count (p .src) (p .slot) l ≡ 0
-  apart-count [] h = refl
-  apart-count (q ∷ l) h = go (samePlace p q) h (λ x. apart-count l x)
-    where
-      go : (t : Bool) → not t && all (λ q. not (samePlace p q)) l ≡ true → (all (λ q. not (samePlace p q)) l ≡ true → count (p .src) (p .slot) l ≡ 0)
-          → cond t 1 0 + count (p .src) (p .slot) l ≡ 0
-      go true h ih = absurd (false≢true h)
-      go false h ih = omega (arith, ih h)
+  apart-count l h = ap (λ (f : Place → ℕ). tally f l) (fun-ext (λ q. ap bit (sym (Bool·not-not (samePlace p q))))) ∙ all-tally (λ q. not (samePlace p q)) l h
 
   count-apart : (l : List Place) → count (p .src) (p .slot) l ≡ 0 → all (λ q. not (samePlace p q)) l ≡ true
-  count-apart [] h = refl
-  count-apart (q ∷ l) h = go (samePlace p q) h (λ x. count-apart l x)
-    where
-      go : (t : Bool) → cond t 1 0 + count (p .src) (p .slot) l ≡ 0 → (count (p .src) (p .slot) l ≡ 0 → all (λ q. not (samePlace p q)) l ≡ true)
-          → not t && all (λ q. not (samePlace p q)) l ≡ true
-      go true h ih = absurd (omega arith)
-      go false h ih = ih (omega arith)
+  count-apart l h = tally-all (λ q. not (samePlace p q)) l (ap (λ (f : Place → ℕ). tally f l) (fun-ext (λ q. ap bit (Bool·not-not (samePlace p q)))) ∙ h)
 
 pub once-count : (l : List Place) → once l ≡ true → (j k : ℕ) → count j k l ≤ 1
 once-count [] h j k = omega arith
@@ -126,18 +138,16 @@ once-count (p ∷ l) h j k = go (eq? j (p .src)) (eq? k (p .slot)) (once-count l
     none : count (p .src) (p .slot) l ≡ 0
     none = apart-count p l (and-left (all (λ q. not (samePlace p q)) l) (once l) h)
 
-    go : {a b : Bool} → Eq? j (p .src) a → Eq? k (p .slot) b → count j k l ≤ 1 → cond (a && b) 1 0 + count j k l ≤ 1
+    go : {a b : Bool} → Eq? j (p .src) a → Eq? k (p .slot) b → count j k l ≤ 1 → bit (a && b) + count j k l ≤ 1
     go (same x) (same y) ih = rw (x, y) (omega (arith, none))
     go (same x) (other y) ih = omega arith
     go (other x) y ih = omega arith
 
+pub stands-self : (p : Place) → stands (p .src) (p .slot) p ≡ true
+stands-self p = and-intro (eqb (p .src) (p .src)) (eqb (p .slot) (p .slot)) (eq-eqb (p .src) (p .src) refl) (eq-eqb (p .slot) (p .slot) refl)
+
 pub count-once : (l : List Place) → ((j k : ℕ) → count j k l ≤ 1) → once l ≡ true
 count-once [] h = refl
 count-once (p ∷ l) h =
-    and-intro (all (λ q. not (samePlace p q)) l) (once l) (count-apart p l (go (eq? (p .src) (p .src)) (eq? (p .slot) (p .slot)) (h (p .src) (p .slot))))
-    (count-once l (λ j k. omega (arith, h j k)))
-  where
-    go : {a b : Bool} → Eq? (p .src) (p .src) a → Eq? (p .slot) (p .slot) b → cond (a && b) 1 0 + count (p .src) (p .slot) l ≤ 1 → count (p .src) (p .slot) l ≡ 0
-    go (same x) (same y) e = omega arith
-    go (same x) (other y) e = absurd (y refl)
-    go (other x) y e = absurd (x refl)
+    let self : bit (stands (p .src) (p .slot) p) ≡ 1 = ap bit (stands-self p) in
+    and-intro (all (λ q. not (samePlace p q)) l) (once l) (count-apart p l (omega (arith, h (p .src) (p .slot)))) (count-once l (λ j k. omega (arith, h j k)))

@@ -13,7 +13,7 @@ use Rattle.rules.specs.State.{Place, State, taken, from, places, free}
 use Rattle.rules.specs.Steps.{firstFree, freeSlot, placed}
 use Rattle.rules.specs.Calls.{full}
 use Rattle.rules.proofs.MapsLaws.{Lt?, lt, ge, lt?, Eq?, same, other, eq?}
-use Rattle.rules.proofs.PlacesLaws.{tally, stands, count}
+use Rattle.rules.proofs.PlacesLaws.{bit, tally, stands, count}
 use Rattle.rules.proofs.SoundLaws.{Sound}
 use Rattle.rules.proofs.SumsLaws.{sum, sum-zero, sum-most, sum-least, sum-hit, sum-once, sum-gap, sum-tally, tally-le}
 
@@ -23,13 +23,13 @@ pub length-tally : (l : List Place) → length l ≡ tally (λ p. 1) l
 length-tally [] = refl
 length-tally (p ∷ l) = omega (arith, length-tally l)
 
-pub from-tally : (j : ℕ) (l : List Place) → length (from j l) ≡ tally (λ p. cond (eqb j (p .src)) 1 0) l
+pub from-tally : (j : ℕ) (l : List Place) → length (from j l) ≡ tally (λ p. bit (eqb j (p .src))) l
 unfolding from
 from-tally j [] = refl
 from-tally j (p ∷ l) = go (eq? j (p .src)) (eq? (p .src) j) (from-tally j l)
   where
-    go : {a b : Bool} → Eq? j (p .src) a → Eq? (p .src) j b → length (from j l) ≡ tally (λ p. cond (eqb j (p .src)) 1 0) l
-        → length (cond b (p ∷ from j l) (from j l)) ≡ cond a 1 0 + tally (λ p. cond (eqb j (p .src)) 1 0) l
+    go : {a b : Bool} → Eq? j (p .src) a → Eq? (p .src) j b → length (from j l) ≡ tally (λ p. bit (eqb j (p .src))) l
+        → length (cond b (p ∷ from j l) (from j l)) ≡ bit a + tally (λ p. bit (eqb j (p .src))) l
     go (same x) (same y) ih = omega arith
     go (same x) (other y) ih = absurd (y (sym x))
     go (other x) (same y) ih = absurd (x (sym y))
@@ -38,17 +38,17 @@ from-tally j (p ∷ l) = go (eq? j (p .src)) (eq? (p .src) j) (from-tally j l)
 -- ---- the slots of one sender
 
 module _ (j m : ℕ) where
-  slots-most : (p : Place) → sum 0 m (λ k. cond (stands j k p) 1 0) ≤ cond (eqb j (p .src)) 1 0
+  slots-most : (p : Place) → sum 0 m (λ k. bit (stands j k p)) ≤ bit (eqb j (p .src))
   slots-most p = go (eqb j (p .src))
     where
-      go : (t : Bool) → sum 0 m (λ k. cond (t && eqb k (p .slot)) 1 0) ≤ cond t 1 0
+      go : (t : Bool) → sum 0 m (λ k. bit (t && eqb k (p .slot))) ≤ bit t
       go true = sum-hit 0 m (p .slot)
       go false = omega (arith, sum-zero 0 m)
 
-  slots-all : (p : Place) → p .slot < m → cond (eqb j (p .src)) 1 0 ≤ sum 0 m (λ k. cond (stands j k p) 1 0)
+  slots-all : (p : Place) → p .slot < m → bit (eqb j (p .src)) ≤ sum 0 m (λ k. bit (stands j k p))
   slots-all p h = go (eqb j (p .src))
     where
-      go : (t : Bool) → cond t 1 0 ≤ sum 0 m (λ k. cond (t && eqb k (p .slot)) 1 0)
+      go : (t : Bool) → bit t ≤ sum 0 m (λ k. bit (t && eqb k (p .slot)))
       go true = omega (arith, sum-once 0 m (p .slot) (omega arith) (omega arith))
       go false = omega arith
 
@@ -57,18 +57,18 @@ module _ (j m : ℕ) where
   counts-most l =
       omega (
         arith,
-        sum-tally 0 m (λ k p. cond (stands j k p) 1 0) l,
+        sum-tally 0 m (λ k p. bit (stands j k p)) l,
         from-tally j l,
-        tally-le (λ p. sum 0 m (λ k. cond (stands j k p) 1 0)) (λ p. cond (eqb j (p .src)) 1 0) l (λ p x. slots-most p),
+        tally-le (λ p. sum 0 m (λ k. bit (stands j k p))) (λ p. bit (eqb j (p .src))) l (λ p x. slots-most p),
       )
 
   pub counts-all : (l : List Place) → ((p : Place) → List·Memᴰ p l → p .slot < m) → length (from j l) ≤ sum 0 m (λ k. count j k l)
   counts-all l h =
       omega (
         arith,
-        sum-tally 0 m (λ k p. cond (stands j k p) 1 0) l,
+        sum-tally 0 m (λ k p. bit (stands j k p)) l,
         from-tally j l,
-        tally-le (λ p. cond (eqb j (p .src)) 1 0) (λ p. sum 0 m (λ k. cond (stands j k p) 1 0)) l (λ p x. slots-all p (h p x)),
+        tally-le (λ p. bit (eqb j (p .src))) (λ p. sum 0 m (λ k. bit (stands j k p))) l (λ p x. slots-all p (h p x)),
       )
 
 -- ---- the first free slot
@@ -109,12 +109,12 @@ among-count j k (p ∷ l) = go (eq? j (p .src)) (eq? (p .src) j) (among-count j 
     Rest : Type 0
     Rest = among k (map (λ (p : Place). p .slot) (from j l)) ≡ ltb 0 (count j k l)
 
-    hit : {c : Bool} → Eq? k (p .slot) c → Rest → c || among k (map (λ (p : Place). p .slot) (from j l)) ≡ ltb 0 (cond c 1 0 + count j k l)
+    hit : {c : Bool} → Eq? k (p .slot) c → Rest → c || among k (map (λ (p : Place). p .slot) (from j l)) ≡ ltb 0 (bit c + count j k l)
     hit (same x) ih = sym (lt-ltb 0 (1 + count j k l) (omega arith))
     hit (other x) ih = ih ∙ ap (λ z. ltb 0 z) (let e : count j k l ≡ 0 + count j k l = omega arith in e)
 
     go : {a b : Bool} → Eq? j (p .src) a → Eq? (p .src) j b → Rest
-        → among k (map (λ (p : Place). p .slot) (cond b (p ∷ from j l) (from j l))) ≡ ltb 0 (cond (a && eqb k (p .slot)) 1 0 + count j k l)
+        → among k (map (λ (p : Place). p .slot) (cond b (p ∷ from j l) (from j l))) ≡ ltb 0 (bit (a && eqb k (p .slot)) + count j k l)
     go (same x) (same y) ih = hit (eq? k (p .slot)) ih
     go (same x) (other y) ih = absurd (y (sym x))
     go (other x) (same y) ih = absurd (x (sym y))
@@ -177,14 +177,14 @@ module _ (s : State) (f : Sound s) where
         arith,
         length-tally (taken s),
         senders,
-        sum-tally 1 (s .n) (λ j p. cond (eqb j (p .src)) 1 0) (taken s),
-        sum-most 1 (s .n) (λ j. tally (λ p. cond (eqb j (p .src)) 1 0) (taken s)) (4 * s .w) (λ j a b. omega (arith, from-tally j (taken s), from-most j)),
+        sum-tally 1 (s .n) (λ j p. bit (eqb j (p .src))) (taken s),
+        sum-most 1 (s .n) (λ j. tally (λ p. bit (eqb j (p .src))) (taken s)) (4 * s .w) (λ j a b. omega (arith, from-tally j (taken s), from-most j)),
       )
     where
-      senders : tally (λ p. 1) (taken s) ≤ tally (λ p. sum 1 (s .n) (λ j. cond (eqb j (p .src)) 1 0)) (taken s)
+      senders : tally (λ p. 1) (taken s) ≤ tally (λ p. sum 1 (s .n) (λ j. bit (eqb j (p .src)))) (taken s)
       senders =
-          tally-le (λ p. 1) (λ p. sum 1 (s .n) (λ j. cond (eqb j (p .src)) 1 0)) (taken s)
-          (λ p m. omega (arith, sum-once 1 (s .n) (p .src) (f .held p m .src-low) (omega (arith, f .held p m .src-high))))
+          tally-le (λ p. 1) (λ p. sum 1 (s .n) (λ j. bit (eqb j (p .src)))) (taken s)
+          (λ p m. omega (arith, sum-once 1 (s .n) (p .src) (f .held p m .says .src-low) (omega (arith, f .held p m .says .src-high))))
 
   -- so the free places are the others
   pub free-taken : free s + length (taken s) ≡ places s

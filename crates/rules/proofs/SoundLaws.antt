@@ -26,6 +26,7 @@ pub record Ranges (i n w : ℕ) : Type 0 where
 
 pub record Nexts (s : State) : Type 0 where
   pub seq : 0 < s .seq
+  pub seq-high : s .seq ≤ last
   pub req : (k : ℕ) → 1 ≤ k → k ≤ s .n → 0 < s .req k
   pub heard : (k : ℕ) → 1 ≤ k → k ≤ s .n → 0 < s .heard k
   pub al : (k j : ℕ) → 1 ≤ k → k ≤ s .n → 1 ≤ j → j ≤ s .n → 0 < s .al k j
@@ -35,16 +36,20 @@ pub record Window (s : State) : Type 0 where
   pub low : minAL s (s .me) ≤ s .seq
   pub high : s .seq ≤ minAL s (s .me) + s .w
 
+-- what a message says keeps the frame limits, in a group of n units
+pub record Within (n src seq : ℕ) (ack text : List ℕ) : Type 0 where
+  pub src-low : 1 ≤ src
+  pub src-high : src ≤ n
+  pub seq-low : 0 < seq
+  pub seq-high : seq < last
+  pub count : length ack ≡ n
+  pub acks : (k : ℕ) → 1 ≤ k → k ≤ n → 0 < at ack k
+  pub short : length text ≤ 48
+
 -- p is a stored message of a group of n units with window w
 pub record Held (n w : ℕ) (p : Place) : Type 0 where
-  pub src-low : 1 ≤ p .src
-  pub src-high : p .src ≤ n
   pub slot : p .slot < 4 * w
-  pub seq-low : 0 < p .seq
-  pub seq-high : p .seq < last
-  pub count : length (p .ack) ≡ n
-  pub acks : (k : ℕ) → 1 ≤ k → k ≤ n → 0 < at (p .ack) k
-  pub text : length (p .text) ≤ 48
+  pub says : Within n (p .src) (p .seq) (p .ack) (p .text)
 
 pub record Kept (s : State) : Type 0 where
   pub short : (x : ℕ) → minAL s (s .me) ≤ x → x < s .seq → 37 + 4 * s .n ≤ length (s .kept x)
@@ -109,7 +114,8 @@ pub nextsFit-facts : (s : State) → nextsFit s ≡ true → Nexts s
 unfolding nextsFit
 nextsFit-facts s h =
     record {
-      seq = ltb-true 0 (s .seq) (search (and-left, and-right));
+      seq = between-low 1 last (s .seq) (search (and-left, and-right));
+      seq-high = between-high 1 last (s .seq) (search (and-left, and-right));
       req = λ k a b. ltb-true 0 (s .req k) (and-left (ltb 0 (s .req k)) (ltb 0 (s .heard k)) (one k a b));
       heard = λ k a b. ltb-true 0 (s .heard k) (and-right (ltb 0 (s .req k)) (ltb 0 (s .heard k)) (one k a b));
       al = λ k j a b c d. ltb-true 0 (s .al k j) (and-left (ltb 0 (s .al k j)) (ltb 0 (s .pal k j)) (two k j a b c d));
@@ -128,8 +134,8 @@ nextsFit-facts s h =
 pub facts-nextsFit : (s : State) → Nexts s → nextsFit s ≡ true
 unfolding nextsFit
 facts-nextsFit s f =
-    and-intro (ltb 0 (s .seq) && every 1 (s .n) (oneNext s)) (every 1 (s .n) (λ k. every 1 (s .n) (twoNext s k)))
-    (and-intro (ltb 0 (s .seq)) (every 1 (s .n) (oneNext s)) (lt-ltb 0 (s .seq) (f .seq))
+    and-intro (between 1 last (s .seq) && every 1 (s .n) (oneNext s)) (every 1 (s .n) (λ k. every 1 (s .n) (twoNext s k)))
+    (and-intro (between 1 last (s .seq)) (every 1 (s .n) (oneNext s)) (is-between 1 last (s .seq) (f .seq) (f .seq-high))
     (every-intro 1 (s .n) (oneNext s) (λ k a b. one k a (omega arith))))
     (every-intro 1 (s .n) (λ k. every 1 (s .n) (twoNext s k)) (λ k a b. every-intro 1 (s .n) (twoNext s k) (λ j c d. two k j a (omega arith) c (omega arith))))
   where
@@ -154,26 +160,29 @@ placeFits-facts s p h =
     let src : between 1 (s .n) (p .src) ≡ true = search (and-left, and-right) in
     let long : eqb (length (p .ack)) (s .n) ≡ true = search (and-left, and-right) in
     record {
-      src-low = between-low 1 (s .n) (p .src) src;
-      src-high = between-high 1 (s .n) (p .src) src;
       slot = ltb-true (p .slot) (4 * s .w) (search (and-left, and-right));
-      seq-low = ltb-true 0 (p .seq) (search (and-left, and-right));
-      seq-high = ltb-true (p .seq) last (search (and-left, and-right));
-      count = eqb-true (length (p .ack)) (s .n) long;
-      acks = λ k a b. noZero-at (p .ack) (search (and-left, and-right)) k a (omega (arith, eqb-true (length (p .ack)) (s .n) long));
-      text = leb-true (length (p .text)) 48 (search (and-left, and-right));
+      says = record {
+        src-low = between-low 1 (s .n) (p .src) src;
+        src-high = between-high 1 (s .n) (p .src) src;
+        seq-low = ltb-true 0 (p .seq) (search (and-left, and-right));
+        seq-high = ltb-true (p .seq) last (search (and-left, and-right));
+        count = eqb-true (length (p .ack)) (s .n) long;
+        acks = λ k a b. noZero-at (p .ack) (search (and-left, and-right)) k a (omega (arith, eqb-true (length (p .ack)) (s .n) long));
+        short = leb-true (length (p .text)) 48 (search (and-left, and-right));
+      };
     }
 
 pub facts-placeFits : (s : State) (p : Place) → Held (s .n) (s .w) p → placeFits s p ≡ true
 unfolding placeFits
-facts-placeFits s p f =
+facts-placeFits s p h =
+    let f = h .says in
     let src : between 1 (s .n) (p .src) ≡ true = is-between 1 (s .n) (p .src) (f .src-low) (f .src-high) in
-    let slot : ltb (p .slot) (4 * s .w) ≡ true = lt-ltb (p .slot) (4 * s .w) (f .slot) in
+    let slot : ltb (p .slot) (4 * s .w) ≡ true = lt-ltb (p .slot) (4 * s .w) (h .slot) in
     let low : ltb 0 (p .seq) ≡ true = lt-ltb 0 (p .seq) (f .seq-low) in
     let high : ltb (p .seq) last ≡ true = lt-ltb (p .seq) last (f .seq-high) in
     let long : eqb (length (p .ack)) (s .n) ≡ true = eq-eqb (length (p .ack)) (s .n) (f .count) in
     let acks : noZero (p .ack) ≡ true = at-noZero (p .ack) (λ k a b. f .acks k a (omega (arith, f .count))) in
-    let text : leb (length (p .text)) 48 ≡ true = le-leb (length (p .text)) 48 (f .text) in
+    let text : leb (length (p .text)) 48 ≡ true = le-leb (length (p .text)) 48 (f .short) in
     rw (src, slot, low, high, long, acks, text)
 
 pub keptFit-facts : (s : State) → keptFit s ≡ true → Kept s

@@ -1,5 +1,5 @@
 -- Sums over a range of numbers, and counting by rows or by columns.
-use mathlib.Core.Bool.{Bool, cond}
+use mathlib.Core.Bool.{Bool}
 use mathlib.Core.List.{List, [], _∷_, List·Memᴰ, List·Memᴰ·head, List·Memᴰ·tail}
 use mathlib.Core.Path.{_≡_, refl}
 use Prim.Native.Nat.{ℕ, zero, suc, _+_, _*_, _≤_, _<_}
@@ -8,7 +8,7 @@ use native.Mathlib.Nat.{le-refl}
 use lib.Dec.{eqb}
 use Rattle.rules.specs.State.{Place}
 use Rattle.rules.proofs.MapsLaws.{Eq?, same, other, eq?}
-use Rattle.rules.proofs.PlacesLaws.{tally}
+use Rattle.rules.proofs.PlacesLaws.{bit, tally}
 
 -- the sum of f over the m numbers from a on
 abbrev pub sum : ℕ → ℕ → (ℕ → ℕ) → ℕ
@@ -33,27 +33,27 @@ sum-least a zero f b h = omega arith
 sum-least a (suc m) f b h = omega (arith, sum-least (suc a) m f b (λ k x y. h k (omega arith) (omega arith)), h a (le-refl a) (omega arith))
 
 -- x is one of them at most once, and exactly once where it is in their range
-pub sum-past : (a m x : ℕ) → x < a → sum a m (λ k. cond (eqb k x) 1 0) ≡ 0
+pub sum-past : (a m x : ℕ) → x < a → sum a m (λ k. bit (eqb k x)) ≡ 0
 sum-past a zero x h = refl
 sum-past a (suc m) x h = go (eq? a x) (sum-past (suc a) m x (omega arith))
   where
-    go : {t : Bool} → Eq? a x t → sum (suc a) m (λ k. cond (eqb k x) 1 0) ≡ 0 → cond t 1 0 + sum (suc a) m (λ k. cond (eqb k x) 1 0) ≡ 0
+    go : {t : Bool} → Eq? a x t → sum (suc a) m (λ k. bit (eqb k x)) ≡ 0 → bit t + sum (suc a) m (λ k. bit (eqb k x)) ≡ 0
     go (same e) ih = absurd (omega arith)
     go (other d) ih = omega arith
 
-pub sum-hit : (a m x : ℕ) → sum a m (λ k. cond (eqb k x) 1 0) ≤ 1
+pub sum-hit : (a m x : ℕ) → sum a m (λ k. bit (eqb k x)) ≤ 1
 sum-hit a zero x = omega arith
 sum-hit a (suc m) x = go (eq? a x) (sum-hit (suc a) m x)
   where
-    go : {t : Bool} → Eq? a x t → sum (suc a) m (λ k. cond (eqb k x) 1 0) ≤ 1 → cond t 1 0 + sum (suc a) m (λ k. cond (eqb k x) 1 0) ≤ 1
+    go : {t : Bool} → Eq? a x t → sum (suc a) m (λ k. bit (eqb k x)) ≤ 1 → bit t + sum (suc a) m (λ k. bit (eqb k x)) ≤ 1
     go (same e) ih = omega (arith, sum-past (suc a) m x (omega arith))
     go (other d) ih = omega arith
 
-pub sum-once : (a m x : ℕ) → a ≤ x → x < a + m → sum a m (λ k. cond (eqb k x) 1 0) ≡ 1
+pub sum-once : (a m x : ℕ) → a ≤ x → x < a + m → sum a m (λ k. bit (eqb k x)) ≡ 1
 sum-once a zero x h b = absurd (omega arith)
 sum-once a (suc m) x h b = go (eq? a x) (λ y. sum-once (suc a) m x y (omega arith))
   where
-    go : {t : Bool} → Eq? a x t → (suc a ≤ x → sum (suc a) m (λ k. cond (eqb k x) 1 0) ≡ 1) → cond t 1 0 + sum (suc a) m (λ k. cond (eqb k x) 1 0) ≡ 1
+    go : {t : Bool} → Eq? a x t → (suc a ≤ x → sum (suc a) m (λ k. bit (eqb k x)) ≡ 1) → bit t + sum (suc a) m (λ k. bit (eqb k x)) ≡ 1
     go (same e) ih = omega (arith, sum-past (suc a) m x (omega arith))
     go (other d) ih = omega (arith, ih (omega arith))
 
@@ -62,12 +62,12 @@ pub sum-gap : (a m : ℕ) (f : ℕ → ℕ) (x : ℕ) → a ≤ x → x < a + m 
 sum-gap a m f x low high none h =
     omega (
       arith,
-      sum-plus a m f (λ k. cond (eqb k x) 1 0),
+      sum-plus a m f (λ k. bit (eqb k x)),
       sum-once a m x low high,
-      sum-most a m (λ k. f k + cond (eqb k x) 1 0) 1 (λ k b c. go k (eq? k x)),
+      sum-most a m (λ k. f k + bit (eqb k x)) 1 (λ k b c. go k (eq? k x)),
     )
   where
-    go : (k : ℕ) → {t : Bool} → Eq? k x t → f k + cond t 1 0 ≤ 1
+    go : (k : ℕ) → {t : Bool} → Eq? k x t → f k + bit t ≤ 1
     go k (same e) = rw e (omega arith)
     go k (other d) = omega (arith, h k)
 

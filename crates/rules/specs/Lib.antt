@@ -8,3 +8,4 @@ pub mod State
 pub mod Steps
 pub mod Sound
 pub mod Calls
+pub mod Demand1

@@ -1,0 +1,35 @@
+-- Lists of checks: a refusal answers with one of their numbers, and a call that answers 0 has passed them all.
+use mathlib.Core.Bool.{Bool, true, false, _||_, true≢false}
+use mathlib.Core.List.{List, map}
+use mathlib.Core.Path.{_≡_, refl, sym, subst}
+use Prim.Native.Nat.{ℕ, _<_}
+use lib.Dec.{eqb, ltb}
+use borrow.Author.Tests.{ltb-true, eq-eqb}
+use Rattle.rules.specs.Maps.{all, among}
+use Rattle.rules.specs.Calls.{Check}
+use Rattle.rules.proofs.MapsLaws.{and-left, and-right}
+use Rattle.rules.proofs.CallsLaws.{Refused, now, later}
+
+pub or-left : (a b : Bool) → a || b ≡ false → a ≡ false
+or-left true b h = h
+or-left false b h = refl
+
+pub or-right : (a b : Bool) → a || b ≡ false → b ≡ false
+or-right true b h = absurd (true≢false h)
+or-right false b h = h
+
+-- the numbers that the checks answer with, in their order
+abbrev pub answersOf : List Check → List ℕ
+answersOf l = map (λ (c : Check). c .answer) l
+
+pub refused-among : {a : ℕ} {l : List Check} → Refused a l → among a (answersOf l) ≡ true
+refused-among {a} (now {c} {l} h e) = rw (eq-eqb a (c .answer) (sym e))
+refused-among {a} (later {c} {l} h r) = go (eqb a (c .answer)) (refused-among r)
+  where
+    go : (t : Bool) → among a (answersOf l) ≡ true → t || among a (answersOf l) ≡ true
+    go true ih = refl
+    go false ih = ih
+
+pub refused-not : {a : ℕ} {l : List Check} → Refused a l → all (λ x. ltb 0 x) (answersOf l) ≡ true → 0 < a
+refused-not {a} (now {c} {l} h e) p = subst (λ x. 0 < x) e (ltb-true 0 (c .answer) (and-left (ltb 0 (c .answer)) (all (λ x. ltb 0 x) (answersOf l)) p))
+refused-not {a} (later {c} {l} h r) p = refused-not r (and-right (ltb 0 (c .answer)) (all (λ x. ltb 0 x) (answersOf l)) p)

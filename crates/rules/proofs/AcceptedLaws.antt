@@ -7,7 +7,7 @@ use Prim.Native.Nat.{ℕ, _+_, _*_, _/_, _≤_, _<_}
 use native.Mathlib.Omega.{arith}
 use lib.Dec.{eqb, leb}
 use lib.ListN.{length}
-use borrow.Author.Tests.{ltb-true, ltb-false, leb-true, eqb-true, eqb-false, not-false}
+use borrow.Author.Tests.{ltb-true, ltb-false, leb-true, leb-false, eqb-true, eqb-false, not-false}
 use Rattle.rules.specs.Maps.{between, at, least, every}
 use Rattle.rules.specs.Message.{Message, last}
 use Rattle.rules.specs.State.{State, minAL, places}
@@ -79,6 +79,7 @@ pub record Sends (s : State) (d out : List ℕ) : Type 0 where
   pub short : length d ≤ 48
   pub seq : s .seq < last
   -- the window is open, by W and by the places that each unit has
+  pub wide : s .seq < minAL s (s .me) + s .w
   pub ahead : (j : ℕ) → 1 ≤ j → j ≤ s .n → s .seq < s .al (s .me) j + s .w
   pub spared : s .seq < minAL s (s .me) + least (s .n) (s .buf) / s .n
   pub room : full s (s .me) ≡ false
@@ -88,12 +89,12 @@ pub passed-sends : (s : State) (d out : List ℕ) → Passed (sendChecks s d out
 unfolding sendChecks maySend window minAL
 passed-sends s d out h =
     let f : Sound s = sound-facts s (not-false (sound s) (search)) in
-    let notLast : s .seq ≢ last = eqb-false (s .seq) last (search) in
-    let wide : s .seq < minAL s (s .me) + window s = ltb-true (s .seq) (minAL s (s .me) + window s) (not-false (maySend s) (search)) in
+    let shut : s .seq < minAL s (s .me) + window s = ltb-true (s .seq) (minAL s (s .me) + window s) (not-false (maySend s) (search)) in
     record {
       sound = f;
       short = ltb-false 48 (length d) (search);
-      seq = omega (arith, f .nexts .seq-high);
+      seq = leb-false last (s .seq) (search);
+      wide = omega arith;
       ahead = λ j a b. omega (arith, least-le (s .n) (s .al (s .me)) j a b);
       spared = omega arith;
       room = search;

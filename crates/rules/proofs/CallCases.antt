@@ -2,7 +2,7 @@
 use mathlib.Core.Bool.{Bool, true, false, cond, not}
 use mathlib.Core.List.{List, [], _∷_}
 use mathlib.Core.Option.{Option, none, some}
-use mathlib.Core.Path.{_≡_, refl, ap, subst, _∙_}
+use mathlib.Core.Path.{_≡_, refl, sym, ap, subst, _∙_}
 use Prim.Native.Nat.{ℕ, _-_, _<_}
 use native.Mathlib.Omega.{arith}
 use lib.Dec.{ltb}
@@ -94,6 +94,14 @@ module _ (s : State) where
   done-answer (done-asks k out x) = refl
   done-answer (done-copies x out y) = refl
   done-answer (done-takes out x) = refl
+
+  pub done-passed : {c : Call} {r : Result} → Done c r → Passed (checksOf c)
+  done-passed (done-sends d out x) = x
+  done-passed (done-data l p e x) = subst (λ (o : Option Said). Passed (checksOfSaid o)) (sym e) x
+  done-passed (done-request l r e x) = subst (λ (o : Option Said). Passed (checksOfSaid o)) (sym e) x
+  done-passed (done-asks k out x) = x
+  done-passed (done-copies x out y) = y
+  done-passed (done-takes out x) = x
 
   -- the checks stand in 01's order
   pub checksOf-order : (c : Call) → answersOf (checksOf c) ≡ orderOf c

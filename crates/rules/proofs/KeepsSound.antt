@@ -51,7 +51,7 @@ unfolding minAL
 relisted s pal w o c f nexts held once =
     record {
       ranges = f .ranges;
-      nexts = record { seq = f .nexts .seq; seq-high = f .nexts .seq-high; req = f .nexts .req; heard = f .nexts .heard; al = f .nexts .al; pal = nexts };
+      nexts = record { seq = f .nexts .seq; req = f .nexts .req; heard = f .nexts .heard; al = f .nexts .al; pal = nexts };
       own = f .own;
       window = record { low = f .window .low; high = f .window .high };
       held = held;
@@ -135,7 +135,7 @@ module _ (s : State) (p : Message) (f : Storable s p) where
   stored-nexts =
       record {
         seq = f .nexts .seq;
-        seq-high = f .nexts .seq-high;
+       
         req = upd-all (s .req) (p .src) (suc (p .seq)) (λ k x. 1 ≤ k → k ≤ s .n → 0 < x) (λ a b. omega arith) (λ k d. f .nexts .req k);
         heard = upd-all (s .heard) (p .src) (max (s .heard (p .src)) (suc (p .seq))) (λ k x. 1 ≤ k → k ≤ s .n → 0 < x) (λ a b. omega arith) (λ k d. f .nexts .heard k);
         al = column-all (s .al) (p .src) (at (p .ack)) (λ k c x. 1 ≤ k → k ≤ s .n → 1 ≤ c → c ≤ s .n → 0 < x) (λ k a b x y. f .says .acks k a b) (λ k c d. f .nexts .al k c);
@@ -183,7 +183,7 @@ unfolding noted minAL
 noted-sound s p f =
     record {
       ranges = f .ranges;
-      nexts = record { seq = f .nexts .seq; seq-high = f .nexts .seq-high; req = f .nexts .req; heard = λ k a b. omega (arith, f .nexts .heard k a b); al = f .nexts .al; pal = f .nexts .pal };
+      nexts = record { seq = f .nexts .seq; req = f .nexts .req; heard = λ k a b. omega (arith, f .nexts .heard k a b); al = f .nexts .al; pal = f .nexts .pal };
       own = f .own;
       window = record { low = f .window .low; high = f .window .high };
       held = f .held;

@@ -8,6 +8,7 @@ pub mod CallsLaws
 pub mod Cases
 pub mod PlacesLaws
 pub mod SoundLaws
+pub mod LimitsLaws
 pub mod SumsLaws
 pub mod SlotsLaws
 pub mod ChecksLaws
@@ -20,4 +21,5 @@ pub mod KeepsSound
 pub mod SendLaws
 pub mod OpeningLaws
 pub mod TakenLaws
+pub mod CallSound
 pub mod KeptLaws

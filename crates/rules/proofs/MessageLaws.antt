@@ -125,7 +125,7 @@ decode-encode (request r) g = rw (request-no-message r, readAs-encode (request r
 
 -- ---- what is read is lawful, and the frame of what was read is the frame
 
-record Read (k : ℕ) («as» : List (List ℕ) → Said) (l : List ℕ) (x : Said) : Type 0 where
+pub record Read (k : ℕ) («as» : List (List ℕ) → Said) (l : List ℕ) (x : Said) : Type 0 where
   pub fit : fits table (tagsOf table k) l ≡ true
   pub edition-is : one (numbers table (tagsOf table k) l) 0 ≡ edition
   pub kind-is : one (numbers table (tagsOf table k) l) 1 ≡ k
@@ -136,7 +136,7 @@ when-some : (t : Bool) (x y : Said) → when t x ≡ some y → (t ≡ true) × 
 when-some true x y h = (refl, cc)
 when-some false x y h = let z : _≡_ {A = ℕ} 0 1 = cc in absurd (omega arith)
 
-read : (k : ℕ) («as» : List (List ℕ) → Said) (l : List ℕ) (x : Said) → readAs k «as» l ≡ some x → Read k «as» l x
+pub read : (k : ℕ) («as» : List (List ℕ) → Said) (l : List ℕ) (x : Said) → readAs k «as» l ≡ some x → Read k «as» l x
 unfolding readAs
 read k «as» l x h =
     let w = when-some _ _ x h in

@@ -60,7 +60,6 @@ module _ (i n w cid : ℕ) (first : ℕ → ℕ) (f : Opens i n w cid first) whe
         ranges = f .ranges;
         nexts = record {
           seq = f .low i (f .ranges .i-low) (f .ranges .i-high);
-          seq-high = f .high i (f .ranges .i-low) (f .ranges .i-high);
           req = λ k a b. omega (arith, units-in n first k a b, f .low k a b);
           heard = λ k a b. omega (arith, units-in n first k a b, f .low k a b);
           al = λ k j a b c d. omega (arith, row k j a b c d, f .low k a b);

@@ -26,7 +26,6 @@ pub record Ranges (i n w : ℕ) : Type 0 where
 
 pub record Nexts (s : State) : Type 0 where
   pub seq : 0 < s .seq
-  pub seq-high : s .seq ≤ last
   pub req : (k : ℕ) → 1 ≤ k → k ≤ s .n → 0 < s .req k
   pub heard : (k : ℕ) → 1 ≤ k → k ≤ s .n → 0 < s .heard k
   pub al : (k j : ℕ) → 1 ≤ k → k ≤ s .n → 1 ≤ j → j ≤ s .n → 0 < s .al k j
@@ -114,8 +113,7 @@ pub nextsFit-facts : (s : State) → nextsFit s ≡ true → Nexts s
 unfolding nextsFit
 nextsFit-facts s h =
     record {
-      seq = between-low 1 last (s .seq) (search (and-left, and-right));
-      seq-high = between-high 1 last (s .seq) (search (and-left, and-right));
+      seq = ltb-true 0 (s .seq) (search (and-left, and-right));
       req = λ k a b. ltb-true 0 (s .req k) (and-left (ltb 0 (s .req k)) (ltb 0 (s .heard k)) (one k a b));
       heard = λ k a b. ltb-true 0 (s .heard k) (and-right (ltb 0 (s .req k)) (ltb 0 (s .heard k)) (one k a b));
       al = λ k j a b c d. ltb-true 0 (s .al k j) (and-left (ltb 0 (s .al k j)) (ltb 0 (s .pal k j)) (two k j a b c d));
@@ -134,8 +132,8 @@ nextsFit-facts s h =
 pub facts-nextsFit : (s : State) → Nexts s → nextsFit s ≡ true
 unfolding nextsFit
 facts-nextsFit s f =
-    and-intro (between 1 last (s .seq) && every 1 (s .n) (oneNext s)) (every 1 (s .n) (λ k. every 1 (s .n) (twoNext s k)))
-    (and-intro (between 1 last (s .seq)) (every 1 (s .n) (oneNext s)) (is-between 1 last (s .seq) (f .seq) (f .seq-high))
+    and-intro (ltb 0 (s .seq) && every 1 (s .n) (oneNext s)) (every 1 (s .n) (λ k. every 1 (s .n) (twoNext s k)))
+    (and-intro (ltb 0 (s .seq)) (every 1 (s .n) (oneNext s)) (lt-ltb 0 (s .seq) (f .seq))
     (every-intro 1 (s .n) (oneNext s) (λ k a b. one k a (omega arith))))
     (every-intro 1 (s .n) (λ k. every 1 (s .n) (twoNext s k)) (λ k a b. every-intro 1 (s .n) (twoNext s k) (λ j c d. two k j a (omega arith) c (omega arith))))
   where

@@ -68,7 +68,7 @@ unfoldable pub sendChecks : State → List ℕ → List ℕ → List Check
 sendChecks s d out =
     (not (sound s) ⇒ 1)
     ∷ (ltb 48 (length d) ⇒ 13)
-    ∷ (eqb (s .seq) last ⇒ 14)
+    ∷ (leb last (s .seq) ⇒ 14)
     ∷ (not (maySend s) ⇒ 15)
     ∷ (full s (s .me) ⇒ 12)
     ∷ (ltb (length out) (37 + 4 * s .n + length d) ⇒ 16)

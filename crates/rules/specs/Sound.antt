@@ -12,10 +12,10 @@ use Rattle.rules.specs.State.{Place, State, minAL, taken}
 unfoldable pub rangesFit : ℕ → ℕ → ℕ → Bool
 rangesFit i n w = between 2 8 n && between 2 4 w && between 1 n i
 
--- no "next" number is 0, and SEQ, from which the numbers sent come, is at most the last
+-- no "next" number is 0
 unfoldable pub nextsFit : State → Bool
 nextsFit s =
-    between 1 last (s .seq)
+    ltb 0 (s .seq)
     && every 1 (s .n) (λ k. ltb 0 (s .req k) && ltb 0 (s .heard k))
     && every 1 (s .n) (λ k. every 1 (s .n) (λ j. ltb 0 (s .al k j) && ltb 0 (s .pal k j)))
 

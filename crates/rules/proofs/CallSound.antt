@@ -1,0 +1,168 @@
+-- Every call on a sound unit leaves a sound one; answer 1 is for units that are not sound, and leaves them as they are.
+use mathlib.Core.Bool.{Bool, true, false, not, true≢false}
+use mathlib.Core.Logic.{_≢_, _↔_}
+use mathlib.Core.List.{List, [], _∷_}
+use mathlib.Core.Option.{Option, none, some}
+use mathlib.Core.Path.{_≡_, refl, sym, ap, subst, _∙_}
+use Prim.Native.Nat.{ℕ, suc, _+_, _*_, _≤_, _<_}
+use native.Mathlib.Omega.{arith}
+use lib.ListN.{length}
+use borrow.Author.Tests.{not-true, not-false}
+use Rattle.rules.specs.Maps.{upd, at, among}
+use Rattle.rules.specs.Message.{Message, Said, message, request, encode, decode}
+use Rattle.rules.specs.State.{State, minAL}
+use Rattle.rules.specs.Steps.{outgoing, accepted, sent}
+use Rattle.rules.specs.Sound.{sound}
+use Rattle.rules.specs.Calls.{Check, _⇒_, full, sendChecks, dataChecks, requestChecks, makeChecks, copyChecks, takeChecks, Result, Call, sends, hears, asks, copies, takes, call}
+use Rattle.rules.specs.Demand1.{noting, Demand1, Refusing}
+use Rattle.rules.proofs.MapsLaws.{upd-all, upd-same, upd-other, least-le}
+use Rattle.rules.proofs.MessageLaws.{length-message}
+use Rattle.rules.proofs.CallsLaws.{Passed, Refused, now, later}
+use Rattle.rules.proofs.CallCases.{checksOfSaid, checksOf, call-cases, next-all, refusedBy-answer, done-answer, done-passed}
+use Rattle.rules.proofs.ChecksLaws.{answersOf, refused-among}
+use Rattle.rules.proofs.Demand1Laws.{demand1}
+use Rattle.rules.proofs.SoundLaws.{Kept, Within, Sound, sound-facts, facts-sound}
+use Rattle.rules.proofs.LimitsLaws.{Limits, decode-limits}
+use Rattle.rules.proofs.KeepsSound.{Storable, accepted-sound, withoutTaken-sound, noted-sound}
+use Rattle.rules.proofs.AcceptedLaws.{Accepts, passed-accepts, Sends, passed-sends}
+use Rattle.rules.proofs.SendLaws.{keeping, Carries, outgoing-carries}
+use Rattle.rules.proofs.TakenLaws.{Takes, passed-takes}
+
+-- ---- an arrival
+
+pub arrival-storable : (s : State) (p : Message) → Accepts s p → Limits p → Storable s p
+unfolding minAL
+arrival-storable s p f m =
+    let g = f .sound in
+    record {
+      ranges = g .ranges;
+      nexts = g .nexts;
+      window = g .window;
+      held = g .held;
+      kept = g .kept;
+      once = g .once;
+      says = record {
+        src-low = f .src-low;
+        src-high = f .src-high;
+        seq-low = m .seq-low;
+        seq-high = m .seq-high;
+        count = f .count;
+        acks = λ k a b. m .acks k a (omega (arith, f .count));
+        short = m .short;
+      };
+      room = f .room;
+      own = upd-other (s .req) (p .src) (suc (p .seq)) (s .me) (λ e. f .foreign (sym e)) ∙ g .own;
+      low = omega (arith, least-le (s .n) (s .al (s .me)) (p .src) (f .src-low) (f .src-high), f .risen (s .me) (g .ranges .i-low) (g .ranges .i-high));
+      high = f .own-ack;
+    }
+
+-- ---- a send
+
+sent-kept : (s : State) (d out : List ℕ) → Sends s d out → Kept (keeping s (outgoing s d))
+unfolding minAL outgoing
+sent-kept s d out f =
+    record {
+      short = upd-all (s .kept) (s .seq) frame (λ x l. minAL s (s .me) ≤ x → x < suc (s .seq) → 37 + 4 * s .n ≤ length l) (λ a b. omega (arith, long))
+        (λ x e a b. g .kept .short x a (omega arith));
+      long = upd-all (s .kept) (s .seq) frame (λ x l. minAL s (s .me) ≤ x → x < suc (s .seq) → length l ≤ 85 + 4 * s .n) (λ a b. omega (arith, long, f .short))
+        (λ x e a b. g .kept .long x a (omega arith));
+    }
+  where
+    g : Sound s
+    g = f .sound
+
+    frame : List ℕ
+    frame = encode (message (outgoing s d))
+
+    long : length frame ≡ 37 + 4 * s .n + length d
+    long = omega (arith, length-message (outgoing s d), outgoing-carries s d g .count)
+
+pub send-storable : (s : State) (d out : List ℕ) → Sends s d out → Storable (keeping s (outgoing s d)) (outgoing s d)
+unfolding minAL outgoing full
+send-storable s d out f =
+    let g = f .sound in
+    let c = outgoing-carries s d g in
+    record {
+      ranges = g .ranges;
+      nexts = record { seq = omega arith; req = g .nexts .req; heard = g .nexts .heard; al = g .nexts .al; pal = g .nexts .pal };
+      window = record { low = omega (arith, g .window .low); high = omega (arith, f .wide) };
+      held = g .held;
+      kept = sent-kept s d out f;
+      once = g .once;
+      says = record {
+        src-low = g .ranges .i-low;
+        src-high = g .ranges .i-high;
+        seq-low = g .nexts .seq;
+        seq-high = f .seq;
+        count = c .count;
+        acks = λ k a b. omega (arith, c .acks k a b, g .nexts .req k a b);
+        short = f .short;
+      };
+      room = f .room;
+      own = upd-same (s .req) (s .me) (suc (s .seq));
+      low = omega (arith, c .own-ack, g .window .low);
+      high = omega (arith, c .own-ack);
+    }
+
+-- ---- every call
+
+pub call-sound : (s : State) (c : Call) → sound s ≡ true → sound (call s c .next) ≡ true
+unfolding sent
+call-sound s c h =
+    let f = sound-facts s h in
+    facts-sound (call s c .next)
+    (next-all s Sound
+    (record {
+      stays = f;
+      notes = λ p. noted-sound s p f;
+      sends = λ d out x. accepted-sound (keeping s (outgoing s d)) (outgoing s d) (send-storable s d out (passed-sends s d out x));
+      accepts = λ l p e x. accepted-sound s p (arrival-storable s p (passed-accepts s p x) (decode-limits l p e));
+      takes = λ out x. withoutTaken-sound s _ _ (passed-takes s out x .first) f;
+    }) c)
+
+-- ---- answer 1
+
+-- the first check of each call is for soundness, and no other answers 1
+record First (s : State) (l : List Check) : Type 0 where
+  pub rest : List Check
+  pub whole : l ≡ (not (sound s) ⇒ 1) ∷ rest
+  pub others : among 1 (answersOf rest) ≡ false
+
+checksOf-first : (s : State) (c : Call) → First s (checksOf s c)
+unfolding sendChecks dataChecks requestChecks makeChecks copyChecks takeChecks
+checksOf-first s (sends d out) = record { rest = _; whole = refl; others = refl }
+checksOf-first s (hears l) = go (decode l)
+  where
+    go : (o : Option Said) → First s (checksOfSaid s o)
+    go none = record { rest = _; whole = refl; others = refl }
+    go (some (message p)) = record { rest = _; whole = refl; others = refl }
+    go (some (request r)) = record { rest = _; whole = refl; others = refl }
+checksOf-first s (asks k out) = record { rest = _; whole = refl; others = refl }
+checksOf-first s (copies x out) = record { rest = _; whole = refl; others = refl }
+checksOf-first s (takes out) = record { rest = _; whole = refl; others = refl }
+
+-- answer 1 is given exactly to units that are not sound
+pub one-unsound : (s : State) (c : Call) → (call s c .answer ≡ 1) ↔ (sound s ≡ false)
+one-unsound s c = (call-cases s (λ r. r .answer ≡ 1 → sound s ≡ false) c (λ a r e. refused a (sym (refusedBy-answer s c a) ∙ e) (subst (λ (l : List Check). Refused a l) (f .whole) r)) (λ r d e. absurd (omega (arith, done-answer s d))),
+    λ h. call-cases s (λ r. r .answer ≡ 1) c (λ a r. refusedBy-answer s c a ∙ only a h (subst (λ (l : List Check). Refused a l) (f .whole) r)) (λ r d. absurd (true≢false (sym (not-false (sound s) (subst (λ (l : List Check). Passed l) (f .whole) (done-passed s d) .0)) ∙ h))))
+  where
+    f : First s (checksOf s c)
+    f = checksOf-first s c
+
+    refused : (a : ℕ) → a ≡ 1 → Refused a ((not (sound s) ⇒ 1) ∷ f .rest) → sound s ≡ false
+    refused a e (now h x) = not-true (sound s) h
+    refused a e (later h r) = absurd (true≢false (sym (refused-among r) ∙ ap (λ (x : ℕ). among x (answersOf (f .rest))) e ∙ f .others))
+
+    only : (a : ℕ) → sound s ≡ false → Refused a ((not (sound s) ⇒ 1) ∷ f .rest) → a ≡ 1
+    only a h (now x e) = sym e
+    only a h (later x r) = absurd (true≢false (sym (not-false (sound s) x) ∙ h))
+
+pub one-unchanged : (s : State) (c : Call) → call s c .answer ≡ 1 → call s c .next ≡ s
+one-unchanged s c e = demand1 s c .refuses (λ z. omega arith) .heard (ap (λ (x : ℕ). among x (noting c)) e ∙ quiet c)
+  where
+    quiet : (c : Call) → among 1 (noting c) ≡ false
+    quiet (sends d out) = refl
+    quiet (hears l) = refl
+    quiet (asks k out) = refl
+    quiet (copies x out) = refl
+    quiet (takes out) = refl

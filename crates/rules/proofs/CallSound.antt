@@ -63,9 +63,9 @@ unfolding minAL outgoing
 sent-kept s d out f =
     record {
       short = upd-all (s .kept) (s .seq) frame (λ x l. minAL s (s .me) ≤ x → x < suc (s .seq) → 37 + 4 * s .n ≤ length l) (λ a b. omega (arith, long))
-        (λ x e a b. g .kept .short x a (omega arith));
+          (λ x e a b. g .kept .short x a (omega arith));
       long = upd-all (s .kept) (s .seq) frame (λ x l. minAL s (s .me) ≤ x → x < suc (s .seq) → length l ≤ 85 + 4 * s .n) (λ a b. omega (arith, long, f .short))
-        (λ x e a b. g .kept .long x a (omega arith));
+          (λ x e a b. g .kept .long x a (omega arith));
     }
   where
     g : Sound s
@@ -143,8 +143,10 @@ checksOf-first s (takes out) = record { rest = _; whole = refl; others = refl }
 
 -- answer 1 is given exactly to units that are not sound
 pub one-unsound : (s : State) (c : Call) → (call s c .answer ≡ 1) ↔ (sound s ≡ false)
-one-unsound s c = (call-cases s (λ r. r .answer ≡ 1 → sound s ≡ false) c (λ a r e. refused a (sym (refusedBy-answer s c a) ∙ e) (subst (λ (l : List Check). Refused a l) (f .whole) r)) (λ r d e. absurd (omega (arith, done-answer s d))),
-    λ h. call-cases s (λ r. r .answer ≡ 1) c (λ a r. refusedBy-answer s c a ∙ only a h (subst (λ (l : List Check). Refused a l) (f .whole) r)) (λ r d. absurd (true≢false (sym (not-false (sound s) (subst (λ (l : List Check). Passed l) (f .whole) (done-passed s d) .0)) ∙ h))))
+one-unsound s c = (
+  call-cases s (λ r. r .answer ≡ 1 → sound s ≡ false) c (λ a r e. refused a (sym (refusedBy-answer s c a) ∙ e) (subst (λ (l : List Check). Refused a l) (f .whole) r)) (λ r d e. absurd (omega (arith, done-answer s d))),
+  λ h. call-cases s (λ r. r .answer ≡ 1) c (λ a r. refusedBy-answer s c a ∙ only a h (subst (λ (l : List Check). Refused a l) (f .whole) r)) (λ r d. absurd (true≢false (sym (not-false (sound s) (subst (λ (l : List Check). Passed l) (f .whole) (done-passed s d) .0)) ∙ h))),
+)
   where
     f : First s (checksOf s c)
     f = checksOf-first s c

@@ -27,7 +27,7 @@ unfolding noted
 noted-refusing s l p a true e = record { output = refl; numbers = refl; unit = refl; heard = λ h. absurd (true≢false (sym e ∙ h)) }
 noted-refusing s l p a false e = plain s (hears l) a
 
-refused-refusing : (s : State) (c : Call) (a : ℕ) → Refusing s c (refusedBy s c a)
+pub refused-refusing : (s : State) (c : Call) (a : ℕ) → Refusing s c (refusedBy s c a)
 refused-refusing s (sends d out) a = plain s (sends d out) a
 refused-refusing s (hears l) a = go (decode l)
   where

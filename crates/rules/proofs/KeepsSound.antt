@@ -135,7 +135,6 @@ module _ (s : State) (p : Message) (f : Storable s p) where
   stored-nexts =
       record {
         seq = f .nexts .seq;
-       
         req = upd-all (s .req) (p .src) (suc (p .seq)) (λ k x. 1 ≤ k → k ≤ s .n → 0 < x) (λ a b. omega arith) (λ k d. f .nexts .req k);
         heard = upd-all (s .heard) (p .src) (max (s .heard (p .src)) (suc (p .seq))) (λ k x. 1 ≤ k → k ≤ s .n → 0 < x) (λ a b. omega arith) (λ k d. f .nexts .heard k);
         al = column-all (s .al) (p .src) (at (p .ack)) (λ k c x. 1 ≤ k → k ≤ s .n → 1 ≤ c → c ≤ s .n → 0 < x) (λ k a b x y. f .says .acks k a b) (λ k c d. f .nexts .al k c);

@@ -1,8 +1,9 @@
 -- Kept frames: which numbers are kept, that their frames stay as they were written, and that only a send adds one.
 use mathlib.Core.Bool.{Bool, true, cond}
+use mathlib.Core.Logic.{_≢_}
 use mathlib.Core.List.{List, []}
 use mathlib.Core.Path.{_≡_, refl, sym, ap, subst, _∙_}
-use Prim.Native.Nat.{ℕ, suc, _≤_}
+use Prim.Native.Nat.{ℕ, suc, _≤_, _<_}
 use native.Mathlib.Omega.{arith}
 use native.Mathlib.Nat.{le-refl}
 use borrow.Author.Tests.{le-leb}
@@ -11,10 +12,11 @@ use Rattle.rules.specs.Message.{Message, message, encode}
 use Rattle.rules.specs.State.{Place, State, minAL}
 use Rattle.rules.specs.Steps.{outgoing, stored, noted, isKept, withLists, preacked, preackTo, moved, accepted, sent, withoutTaken}
 use Rattle.rules.specs.Sound.{sound}
-use Rattle.rules.specs.Calls.{Call, sends, takes, call}
+use Rattle.rules.specs.Calls.{Result, Call, sends, call}
 use Rattle.rules.proofs.MapsLaws.{upd-same, upd-other, column-same, least-le}
 use Rattle.rules.proofs.StepsLaws.{preackTo-all, confirm-all}
-use Rattle.rules.proofs.CallCases.{next-all}
+use Rattle.rules.proofs.CallCases.{Done, done-sends, done-data, done-request, done-asks, done-copies, done-takes, call-cases, next-all}
+use Rattle.rules.proofs.Demand1Laws.{refused-refusing}
 use Rattle.rules.proofs.SoundLaws.{Sound, sound-facts}
 use Rattle.rules.proofs.AcceptedLaws.{Accepts, passed-accepts}
 use Rattle.rules.proofs.KeepsSound.{minAL-rises}
@@ -60,6 +62,12 @@ keeps-trans s t u f g =
           g .frames x between b ∙ f .frames x a between;
     }
 
+-- a number that is kept and is not new was kept before
+pub keeps-old : (s t : State) → Keeps s t → (x : ℕ) → isKept t x ≡ true → x < s .seq → isKept s x ≡ true
+keeps-old s t f x k h =
+    let new = isKept-facts t x k in
+    facts-isKept s x (omega (arith, f .low)) h
+
 -- an acceptance, where the own number that p expects next is not below what is kept
 pub accepted-keeps : (s : State) (p : Message) → 1 ≤ s .n → minAL s (s .me) ≤ at (p .ack) (s .me) → Keeps s (accepted s p)
 unfolding stored minAL
@@ -90,6 +98,7 @@ pub record Adds (s t : State) (f : List ℕ) : Type 0 where
   pub keeps : Keeps s t
   pub next : t .seq ≡ suc (s .seq)
   pub number : isKept t (s .seq) ≡ true
+  pub only : (x : ℕ) → isKept t x ≡ true → x ≢ s .seq → isKept s x ≡ true
   pub frame : t .kept (s .seq) ≡ f
 
 pub accepted-low : (s : State) (p : Message) → 1 ≤ p .src → p .src ≤ s .n → minAL (accepted s p) (accepted s p .me) ≤ at (p .ack) (s .me)
@@ -102,9 +111,12 @@ pub sent-adds : (s : State) (d : List ℕ) → Sound s → Adds s (sent s (outgo
 unfolding sent minAL stored outgoing
 sent-adds s d f =
     record {
-      keeps = keeps-trans s (keeping s m) (sent s m) (keeping-keeps s m) after;
+      keeps = keeps;
       next = next;
       number = number;
+      only = λ x k d.
+          let new = isKept-facts (sent s m) x k in
+          keeps-old s (sent s m) keeps x k (omega (arith, next));
       frame = after .frames (s .seq) (facts-isKept (keeping s m) (s .seq) (f .window .low) (omega arith)) number ∙ upd-same (s .kept) (s .seq) (encode (message m));
     }
   where
@@ -116,6 +128,9 @@ sent-adds s d f =
 
     after : Keeps (keeping s m) (sent s m)
     after = accepted-keeps (keeping s m) m (omega (arith, f .ranges .n-low)) (omega (arith, own, f .window .low))
+
+    keeps : Keeps s (sent s m)
+    keeps = keeps-trans s (keeping s m) (sent s m) (keeping-keeps s m) after
 
     next : sent s m .seq ≡ suc (s .seq)
     next = ap (λ (z : State). z .seq) (sym (settled-rest (keeping s m) m))
@@ -141,3 +156,25 @@ call-keeps s c h =
     arrived p f =
         let r = f .sound .ranges in
         accepted-keeps s p (omega arith) (omega (arith, least-le (s .n) (s .al (s .me)) (p .src) (f .src-low) (f .src-high), f .risen (s .me) (r .i-low) (r .i-high)))
+
+-- only a send raises SEQ
+pub data Sending : Call → Type 0 where
+  sending : (d out : List ℕ) → Sending (sends d out)
+
+pub call-seq : (s : State) (c : Call) → (Sending c → ⊥) → call s c .next .seq ≡ s .seq
+unfolding stored withoutTaken
+call-seq s c n = call-cases s (λ r. r .next .seq ≡ s .seq) c (λ a r. ap (λ (z : State). z .seq) (refused-refusing s c a .unit)) (λ r d. done n d)
+  where
+    done : {c : Call} {r : Result} → (Sending c → ⊥) → Done s c r → r .next .seq ≡ s .seq
+    done n (done-sends d out x) = absurd (n (sending d out))
+    done n (done-data l p e x) = ap (λ (z : State). z .seq) (sym (settled-rest s p))
+    done n (done-request l r e x) = refl
+    done n (done-asks k out x) = refl
+    done n (done-copies x out y) = refl
+    done n (done-takes out x) = refl
+
+-- so every other call keeps no number that was not kept
+pub call-kept : (s : State) (c : Call) → sound s ≡ true → (Sending c → ⊥) → (x : ℕ) → isKept (call s c .next) x ≡ true → isKept s x ≡ true
+call-kept s c h n x k =
+    let new = isKept-facts (call s c .next) x k in
+    keeps-old s (call s c .next) (call-keeps s c h) x k (omega (arith, call-seq s c n))

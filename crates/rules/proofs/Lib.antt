@@ -23,3 +23,4 @@ pub mod OpeningLaws
 pub mod TakenLaws
 pub mod CallSound
 pub mod KeptLaws
+pub mod CopiedLaws

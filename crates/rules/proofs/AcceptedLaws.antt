@@ -1,34 +1,54 @@
--- What an accepted message satisfied, and what a sent one did: a call that answers 0 passed each of its checks.
-use mathlib.Core.Bool.{Bool, true, false, cond}
+-- What a message satisfied whose arrival answers 0: it passed each check.
+use mathlib.Core.Bool.{Bool, true, false, cond, not}
 use mathlib.Core.Logic.{_≢_}
 use mathlib.Core.List.{List}
 use mathlib.Core.Path.{_≡_, refl}
-use Prim.Native.Nat.{ℕ, _+_, _*_, _/_, _≤_, _<_}
+use Prim.Native.Nat.{ℕ, _≤_}
 use native.Mathlib.Omega.{arith}
-use lib.Dec.{eqb, leb}
+use lib.Dec.{eqb, leb, ltb}
 use lib.ListN.{length}
-use borrow.Author.Tests.{ltb-true, ltb-false, leb-true, leb-false, eqb-true, eqb-false, not-false}
-use Rattle.rules.specs.Maps.{between, at, least, every}
-use Rattle.rules.specs.Message.{Message, last}
-use Rattle.rules.specs.State.{State, minAL, places}
-use Rattle.rules.specs.Steps.{window, maySend, known}
+use borrow.Author.Tests.{ltb-false, leb-true, eqb-true, eqb-false, not-false}
+use Rattle.rules.specs.Maps.{between, at, every}
+use Rattle.rules.specs.Message.{Message}
+use Rattle.rules.specs.State.{State, places}
+use Rattle.rules.specs.Steps.{known}
 use Rattle.rules.specs.Sound.{sound}
-use Rattle.rules.specs.Calls.{isUnit, full, foreign, sendChecks, send, dataChecks, arriveData}
-use Rattle.rules.proofs.MapsLaws.{Eq?, same, other, eq?, between-low, between-high, least-le, every-at}
-use Rattle.rules.proofs.CallsLaws.{Passed, send-cases, data-cases}
+use Rattle.rules.specs.Calls.{full, foreign, dataChecks, arriveData}
+use Rattle.rules.proofs.MapsLaws.{Eq?, same, other, eq?, between-low, between-high, every-at}
+use Rattle.rules.proofs.CallsLaws.{Passed, data-cases}
 use Rattle.rules.proofs.ChecksLaws.{or-left, or-right, refused-not}
 use Rattle.rules.proofs.SoundLaws.{Sound, sound-facts}
 
--- ---- arrival of data
+-- ---- what both kinds of frame are checked for
+
+pub record Comes (s : State) (cid src : ℕ) (ack : List ℕ) : Type 0 where
+  pub sound : Sound s
+  pub group : cid ≡ s .cid
+  pub count : length ack ≡ s .n
+  pub src-low : 1 ≤ src
+  pub src-high : src ≤ s .n
+  pub other : src ≢ s .me
+  pub own-ack : at ack (s .me) ≤ s .seq
+
+pub passed-comes : (s : State) (cid src : ℕ) (ack : List ℕ) → not (sound s) ≡ false → not (eqb cid (s .cid)) ≡ false → foreign s src ack ≡ false
+    → eqb src (s .me) ≡ false → ltb (s .seq) (at ack (s .me)) ≡ false → Comes s cid src ack
+unfolding foreign
+passed-comes s cid src ack a b c d e =
+    let unit : between 1 (s .n) src ≡ true = not-false (between 1 (s .n) src) (search (or-left, or-right)) in
+    record {
+      sound = sound-facts s (not-false (sound s) a);
+      group = eqb-true cid (s .cid) (not-false (eqb cid (s .cid)) b);
+      count = eqb-true (length ack) (s .n) (not-false (eqb (length ack) (s .n)) (search (or-left, or-right)));
+      src-low = between-low 1 (s .n) src unit;
+      src-high = between-high 1 (s .n) src unit;
+      other = eqb-false src (s .me) d;
+      own-ack = ltb-false (s .seq) (at ack (s .me)) e;
+    }
+
+-- ---- data
 
 pub record Accepts (s : State) (p : Message) : Type 0 where
-  pub sound : Sound s
-  pub group : p .cid ≡ s .cid
-  pub count : length (p .ack) ≡ s .n
-  pub src-low : 1 ≤ p .src
-  pub src-high : p .src ≤ s .n
-  pub foreign : p .src ≢ s .me
-  pub own-ack : at (p .ack) (s .me) ≤ s .seq
+  pub comes : Comes s (p .cid) (p .src) (p .ack)
   pub its-ack : at (p .ack) (p .src) ≡ p .seq
   pub buf : p .buf ≤ places s
   -- it is the next of its sender, and its sender expected nothing that has not come here
@@ -47,17 +67,10 @@ known-at s p h k a b d = go (eq? k (p .src)) (every-at 1 (s .n) (λ k. cond (eqb
     go (other e) x = leb-true (at (p .ack) k) (s .req k) x
 
 pub passed-accepts : (s : State) (p : Message) → Passed (dataChecks s p) → Accepts s p
-unfolding dataChecks foreign isUnit
+unfolding dataChecks
 passed-accepts s p h =
-    let src : between 1 (s .n) (p .src) ≡ true = not-false (between 1 (s .n) (p .src)) (search (or-left, or-right)) in
     record {
-      sound = sound-facts s (not-false (sound s) (search));
-      group = eqb-true (p .cid) (s .cid) (not-false (eqb (p .cid) (s .cid)) (search));
-      count = eqb-true (length (p .ack)) (s .n) (not-false (eqb (length (p .ack)) (s .n)) (search (or-left, or-right)));
-      src-low = between-low 1 (s .n) (p .src) src;
-      src-high = between-high 1 (s .n) (p .src) src;
-      foreign = eqb-false (p .src) (s .me) (search);
-      own-ack = ltb-false (s .seq) (at (p .ack) (s .me)) (search (or-left, or-right));
+      comes = passed-comes s (p .cid) (p .src) (p .ack) (search) (search) (search) (search) (search (or-left, or-right));
       its-ack = eqb-true (at (p .ack) (p .src)) (p .seq) (not-false (eqb (at (p .ack) (p .src)) (p .seq)) (search (or-left, or-right)));
       buf = ltb-false (places s) (p .buf) (search (or-left, or-right));
       next = omega (arith, ltb-false (p .seq) (s .req (p .src)) (search), ltb-false (s .req (p .src)) (p .seq) (search));
@@ -71,36 +84,3 @@ passed-accepts s p h =
 pub accepted-facts : (s : State) (p : Message) → arriveData s p .answer ≡ 0 → Accepts s p
 unfolding dataChecks
 accepted-facts s p = data-cases s (λ r. r .answer ≡ 0 → Accepts s p) p (λ a r e. absurd (omega (arith, refused-not r refl))) (λ h e. passed-accepts s p h)
-
--- ---- send
-
-pub record Sends (s : State) (d out : List ℕ) : Type 0 where
-  pub sound : Sound s
-  pub short : length d ≤ 48
-  pub seq : s .seq < last
-  -- the window is open, by W and by the places that each unit has
-  pub wide : s .seq < minAL s (s .me) + s .w
-  pub ahead : (j : ℕ) → 1 ≤ j → j ≤ s .n → s .seq < s .al (s .me) j + s .w
-  pub spared : s .seq < minAL s (s .me) + least (s .n) (s .buf) / s .n
-  pub room : full s (s .me) ≡ false
-  pub long : 37 + 4 * s .n + length d ≤ length out
-
-pub passed-sends : (s : State) (d out : List ℕ) → Passed (sendChecks s d out) → Sends s d out
-unfolding sendChecks maySend window minAL
-passed-sends s d out h =
-    let f : Sound s = sound-facts s (not-false (sound s) (search)) in
-    let shut : s .seq < minAL s (s .me) + window s = ltb-true (s .seq) (minAL s (s .me) + window s) (not-false (maySend s) (search)) in
-    record {
-      sound = f;
-      short = ltb-false 48 (length d) (search);
-      seq = leb-false last (s .seq) (search);
-      wide = omega arith;
-      ahead = λ j a b. omega (arith, least-le (s .n) (s .al (s .me)) j a b);
-      spared = omega arith;
-      room = search;
-      long = ltb-false (length out) (37 + 4 * s .n + length d) (search);
-    }
-
-pub sent-facts : (s : State) (d out : List ℕ) → send s d out .answer ≡ 0 → Sends s d out
-unfolding sendChecks
-sent-facts s d out = send-cases s (λ r. r .answer ≡ 0 → Sends s d out) d out (λ a r e. absurd (omega (arith, refused-not r refl))) (λ h e. passed-sends s d out h)

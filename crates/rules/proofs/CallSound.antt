@@ -1,39 +1,40 @@
 -- Every call on a sound unit leaves a sound one; answer 1 is for units that are not sound, and leaves them as they are.
-use mathlib.Core.Bool.{Bool, true, false, not, true≢false}
-use mathlib.Core.Logic.{_≢_, _↔_}
-use mathlib.Core.List.{List, [], _∷_}
+use mathlib.Core.Bool.{true, false, not, true≢false}
+use mathlib.Core.Logic.{_↔_}
+use mathlib.Core.List.{List, _∷_}
 use mathlib.Core.Option.{Option, none, some}
 use mathlib.Core.Path.{_≡_, refl, sym, ap, subst, _∙_}
 use Prim.Native.Nat.{ℕ, suc, _+_, _*_, _≤_, _<_}
 use native.Mathlib.Omega.{arith}
 use lib.ListN.{length}
 use borrow.Author.Tests.{not-true, not-false}
-use Rattle.rules.specs.Maps.{upd, at, among}
+use Rattle.rules.specs.Maps.{among}
 use Rattle.rules.specs.Message.{Message, Said, message, request, encode, decode}
 use Rattle.rules.specs.State.{State, minAL}
-use Rattle.rules.specs.Steps.{outgoing, accepted, sent}
+use Rattle.rules.specs.Steps.{keeping, outgoing, sent}
 use Rattle.rules.specs.Sound.{sound}
-use Rattle.rules.specs.Calls.{Check, _⇒_, full, sendChecks, dataChecks, requestChecks, makeChecks, copyChecks, takeChecks, Result, Call, sends, hears, asks, copies, takes, call}
-use Rattle.rules.specs.Demand1.{noting, Demand1, Refusing}
+use Rattle.rules.specs.Calls.{Check, _⇒_, full, sendChecks, dataChecks, requestChecks, makeChecks, copyChecks, takeChecks, Call, sends, hears, asks, copies, takes, call}
+use Rattle.rules.specs.Demand1.{noting}
 use Rattle.rules.proofs.MapsLaws.{upd-all, upd-same, upd-other, least-le}
 use Rattle.rules.proofs.MessageLaws.{length-message}
 use Rattle.rules.proofs.CallsLaws.{Passed, Refused, now, later}
 use Rattle.rules.proofs.CallCases.{checksOfSaid, checksOf, call-cases, next-all, refusedBy-answer, done-answer, done-passed}
 use Rattle.rules.proofs.ChecksLaws.{answersOf, refused-among}
 use Rattle.rules.proofs.Demand1Laws.{demand1}
-use Rattle.rules.proofs.SoundLaws.{Kept, Within, Sound, sound-facts, facts-sound}
+use Rattle.rules.proofs.SoundLaws.{Kept, Sound, sound-facts, facts-sound}
 use Rattle.rules.proofs.LimitsLaws.{Limits, decode-limits}
 use Rattle.rules.proofs.KeepsSound.{Storable, accepted-sound, withoutTaken-sound, noted-sound}
-use Rattle.rules.proofs.AcceptedLaws.{Accepts, passed-accepts, Sends, passed-sends}
-use Rattle.rules.proofs.SendLaws.{keeping, Carries, outgoing-carries}
-use Rattle.rules.proofs.TakenLaws.{Takes, passed-takes}
+use Rattle.rules.proofs.AcceptedLaws.{Accepts, passed-accepts}
+use Rattle.rules.proofs.SendLaws.{Sends, passed-sends, outgoing-carries}
+use Rattle.rules.proofs.TakenLaws.{passed-takes}
 
 -- ---- an arrival
 
 pub arrival-storable : (s : State) (p : Message) → Accepts s p → Limits p → Storable s p
 unfolding minAL
 arrival-storable s p f m =
-    let g = f .sound in
+    let h = f .comes in
+    let g = h .sound in
     record {
       ranges = g .ranges;
       nexts = g .nexts;
@@ -42,18 +43,18 @@ arrival-storable s p f m =
       kept = g .kept;
       once = g .once;
       says = record {
-        src-low = f .src-low;
-        src-high = f .src-high;
+        src-low = h .src-low;
+        src-high = h .src-high;
         seq-low = m .seq-low;
         seq-high = m .seq-high;
-        count = f .count;
-        acks = λ k a b. m .acks k a (omega (arith, f .count));
+        count = h .count;
+        acks = λ k a b. m .acks k a (omega (arith, h .count));
         short = m .short;
       };
       room = f .room;
-      own = upd-other (s .req) (p .src) (suc (p .seq)) (s .me) (λ e. f .foreign (sym e)) ∙ g .own;
-      low = omega (arith, least-le (s .n) (s .al (s .me)) (p .src) (f .src-low) (f .src-high), f .risen (s .me) (g .ranges .i-low) (g .ranges .i-high));
-      high = f .own-ack;
+      own = upd-other (s .req) (p .src) (suc (p .seq)) (s .me) (λ e. h .other (sym e)) ∙ g .own;
+      low = omega (arith, least-le (s .n) (s .al (s .me)) (p .src) (h .src-low) (h .src-high), f .risen (s .me) (g .ranges .i-low) (g .ranges .i-high));
+      high = h .own-ack;
     }
 
 -- ---- a send

@@ -1,24 +1,22 @@
 -- A kept frame is copied out exactly as it was first sent, after any calls while it is kept.
-use mathlib.Core.Bool.{Bool, true, false, not, true≢false}
-use mathlib.Core.Logic.{_↔_}
-use mathlib.Core.List.{List, [], _∷_, _++_}
-use mathlib.Core.Path.{_≡_, refl, sym, ap, subst, _∙_}
-use Prim.Native.Nat.{ℕ, _+_, _≤_, _<_}
+use mathlib.Core.Bool.{Bool, true, false}
+use mathlib.Core.List.{List, [], _∷_}
+use mathlib.Core.Path.{_≡_, refl, sym, ap, _∙_}
+use Prim.Native.Nat.{ℕ, _≤_}
 use native.Mathlib.Omega.{arith}
 use lib.Dec.{ltb}
 use lib.ListN.{length, take, drop}
 use lib.Seq.{take-append-seam, drop-append-seam}
-use borrow.Author.Tests.{ltb-false, le-ltb, not-true, not-false}
+use borrow.Author.Tests.{le-ltb, not-false}
 use Rattle.rules.specs.Maps.{at}
-use Rattle.rules.specs.Message.{Message, message, encode}
-use Rattle.rules.specs.State.{State, minAL}
-use Rattle.rules.specs.Steps.{outgoing, isKept, sent}
+use Rattle.rules.specs.Message.{message, encode}
+use Rattle.rules.specs.State.{State}
+use Rattle.rules.specs.Steps.{outgoing, isKept}
 use Rattle.rules.specs.Sound.{sound}
-use Rattle.rules.specs.Calls.{Result, refusal, written, sendChecks, send, copyChecks, copy, Call, sends, copies, call}
-use Rattle.rules.proofs.CallsLaws.{Passed, Refused, now, later, send-cases, copy-cases}
+use Rattle.rules.specs.Calls.{Result, refusal, written, sendChecks, send, copyChecks, copy, Call, sends, call}
+use Rattle.rules.proofs.CallsLaws.{send-cases}
 use Rattle.rules.proofs.ChecksLaws.{refused-not}
-use Rattle.rules.proofs.SoundLaws.{Sound, sound-facts}
-use Rattle.rules.proofs.AcceptedLaws.{Sends, passed-sends}
+use Rattle.rules.proofs.SoundLaws.{sound-facts}
 use Rattle.rules.proofs.CallSound.{call-sound}
 use Rattle.rules.proofs.KeptLaws.{Keeps, keeps-refl, keeps-trans, Adds, sent-adds, call-keeps}
 

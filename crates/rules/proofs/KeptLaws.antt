@@ -10,7 +10,7 @@ use borrow.Author.Tests.{le-leb}
 use Rattle.rules.specs.Maps.{column, at}
 use Rattle.rules.specs.Message.{Message, message, encode}
 use Rattle.rules.specs.State.{Place, State, minAL}
-use Rattle.rules.specs.Steps.{outgoing, stored, noted, isKept, withLists, preacked, preackTo, moved, accepted, sent, withoutTaken}
+use Rattle.rules.specs.Steps.{keeping, outgoing, stored, noted, isKept, withLists, preacked, preackTo, moved, accepted, sent, withoutTaken}
 use Rattle.rules.specs.Sound.{sound}
 use Rattle.rules.specs.Calls.{Result, Call, sends, call}
 use Rattle.rules.proofs.MapsLaws.{upd-same, upd-other, column-same, least-le}
@@ -20,7 +20,7 @@ use Rattle.rules.proofs.Demand1Laws.{refused-refusing}
 use Rattle.rules.proofs.SoundLaws.{Sound, sound-facts}
 use Rattle.rules.proofs.AcceptedLaws.{Accepts, passed-accepts}
 use Rattle.rules.proofs.KeepsSound.{minAL-rises}
-use Rattle.rules.proofs.SendLaws.{keeping, outgoing-carries}
+use Rattle.rules.proofs.SendLaws.{outgoing-carries}
 use Rattle.rules.proofs.RequestLaws.{isKept-facts, facts-isKept}
 
 -- settling changes PAL and the lists alone
@@ -154,8 +154,9 @@ call-keeps s c h =
   where
     arrived : (p : Message) → Accepts s p → Keeps s (accepted s p)
     arrived p f =
-        let r = f .sound .ranges in
-        accepted-keeps s p (omega arith) (omega (arith, least-le (s .n) (s .al (s .me)) (p .src) (f .src-low) (f .src-high), f .risen (s .me) (r .i-low) (r .i-high)))
+        let h = f .comes in
+        let r = h .sound .ranges in
+        accepted-keeps s p (omega arith) (omega (arith, least-le (s .n) (s .al (s .me)) (p .src) (h .src-low) (h .src-high), f .risen (s .me) (r .i-low) (r .i-high)))
 
 -- only a send raises SEQ
 pub data Sending : Call → Type 0 where

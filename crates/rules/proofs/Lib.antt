@@ -6,6 +6,7 @@ pub mod MessageLaws
 pub mod StepsLaws
 pub mod CallsLaws
 pub mod Cases
+pub mod InsertLaws
 pub mod PlacesLaws
 pub mod SoundLaws
 pub mod LimitsLaws

@@ -2,16 +2,15 @@
 use mathlib.Core.Bool.{true}
 use mathlib.Core.List.{List, [], _∷_}
 use mathlib.Core.Option.{Option, none, some}
-use mathlib.Core.Path.{_≡_, refl, sym, ap, subst, _∙_}
+use mathlib.Core.Path.{_≡_, refl, ap, subst, _∙_}
 use Prim.Native.Nat.{ℕ, zero, suc, _+_, _*_, _/_, _≤_, _<_}
 use native.Mathlib.Nat.{mul-div-le}
 use native.Mathlib.Omega.{arith}
-use lib.Dec.{ltb}
 use lib.ListN.{length, getD, drop}
 use borrow.Author.Tests.{ltb-true}
 use Rattle.rules.specs.Maps.{at}
 use Rattle.rules.specs.Fields.{Row, table, rowOf, tagsOf, lengthOf, fieldFits, fits, numbers}
-use Rattle.rules.specs.Message.{Message, Said, message, request, last, noZero, inLimits, asMessage, asRequest, readAs, orElse, decode}
+use Rattle.rules.specs.Message.{Message, Said, message, request, last, inLimits, asMessage, asRequest, readAs, orElse, decode}
 use Rattle.rules.proofs.MapsLaws.{and-left, and-right}
 use Rattle.rules.proofs.BytesLaws.{length-allNumbers}
 use Rattle.rules.proofs.FieldsLaws.{is-field}

@@ -1,68 +1,16 @@
--- Where a message is inserted, which messages are pre-acknowledged, and which are confirmed.
-use mathlib.Core.Bool.{Bool, true, false, cond}
+-- Which messages are pre-acknowledged, and which are confirmed.
 use mathlib.Core.Logic.{_⊎_, inl, inr}
-use mathlib.Core.List.{List, [], _∷_, _++_, tail, nil≢cons, head-eq-of-cons-eq, List·Memᴰ, List·Memᴰ·head, List·Memᴰ·tail, List·Memᴰ·cases-cons, List·Memᴰ·not-nil, List·Memᴰ·append-cases, List·Memᴰ·eq-of-singleton, Memᴰ·append-left, Memᴰ·append-right}
-use mathlib.Core.Path.{_≡_, refl, sym, ap, subst, _∙_}
+use mathlib.Core.List.{List, [], _∷_, _++_, tail, List·Memᴰ, List·Memᴰ·head, List·Memᴰ·tail, List·Memᴰ·append-cases, List·Memᴰ·eq-of-singleton, Memᴰ·append-left, Memᴰ·append-right}
+use mathlib.Core.Path.{_≡_, refl, sym, subst}
 use Prim.Native.Nat.{ℕ, _≤_, _<_}
 use native.Mathlib.Omega.{arith}
 use Rattle.rules.specs.Maps.{least}
 use Rattle.rules.specs.Message.{Message}
 use Rattle.rules.specs.State.{Place, State, minAL, minPAL}
-use Rattle.rules.specs.Steps.{precedes, insert, stored, preacked, preackTo, moved, accepted}
+use Rattle.rules.specs.Steps.{insert, stored, preacked, preackTo, moved, accepted}
 use Rattle.rules.proofs.MapsLaws.{least-le}
+use Rattle.rules.proofs.InsertLaws.{insert-mem}
 use Rattle.rules.proofs.StepsLaws.{Due, Ready, preackTo-all, confirm-all}
-
--- ---- insertion
-
--- p stands immediately before the first message that it precedes, else at the end
-pub record Inserted (p : Place) (l : List Place) : Type 0 where
-  pub before : List Place
-  pub after : List Place
-  pub whole : l ≡ before ++ after
-  pub result : insert p l ≡ before ++ p ∷ after
-  pub passed : (q : Place) → List·Memᴰ q before → precedes p q ≡ false
-  pub stopped : (q : Place) (qs : List Place) → after ≡ q ∷ qs → precedes p q ≡ true
-
-pub inserted : (p : Place) (l : List Place) → Inserted p l
-inserted p [] = record { before = []; after = []; whole = refl; result = refl; passed = λ q m. absurd (List·Memᴰ·not-nil m); stopped = λ q qs e. absurd (nil≢cons e) }
-inserted p (q ∷ l) = go (precedes p q) refl (inserted p l)
-  where
-    at-head : precedes p q ≡ true → (r : Place) (rs : List Place) → q ∷ l ≡ r ∷ rs → precedes p r ≡ true
-    at-head e r rs x = subst (λ (z : Place). precedes p z ≡ true) (head-eq-of-cons-eq x) e
-
-    go : (t : Bool) → precedes p q ≡ t → Inserted p l → Inserted p (q ∷ l)
-    go true e i = record { before = []; after = q ∷ l; whole = refl; result = ap (λ t. cond t (p ∷ q ∷ l) (q ∷ insert p l)) e; passed = λ r m. absurd (List·Memᴰ·not-nil m); stopped = at-head e }
-    go false e i =
-        record {
-          before = q ∷ i .before;
-          after = i .after;
-          whole = ap (λ (z : List Place). q ∷ z) (i .whole);
-          result = ap (λ t. cond t (p ∷ q ∷ l) (q ∷ insert p l)) e ∙ ap (λ (z : List Place). q ∷ z) (i .result);
-          passed = λ r m. here r (List·Memᴰ·cases-cons m);
-          stopped = i .stopped;
-        }
-      where
-        here : (r : Place) → (r ≡ q) ⊎ List·Memᴰ r (i .before) → precedes p r ≡ false
-        here r (inl x) = subst (λ (z : Place). precedes p z ≡ false) (sym x) e
-        here r (inr m) = i .passed r m
-
-pub insert-mem : (p q : Place) (l : List Place) → List·Memᴰ q (insert p l) → (q ≡ p) ⊎ List·Memᴰ q l
-insert-mem p q [] m = inl (List·Memᴰ·eq-of-singleton m)
-insert-mem p q (r ∷ l) m = go (precedes p r) m (λ x. insert-mem p q l x)
-  where
-    deeper : (q ≡ p) ⊎ List·Memᴰ q l → (q ≡ p) ⊎ List·Memᴰ q (r ∷ l)
-    deeper (inl e) = inl e
-    deeper (inr x) = inr (List·Memᴰ·tail x)
-
-    behind : (List·Memᴰ q (insert p l) → (q ≡ p) ⊎ List·Memᴰ q l) → (q ≡ r) ⊎ List·Memᴰ q (insert p l) → (q ≡ p) ⊎ List·Memᴰ q (r ∷ l)
-    behind ih (inl e) = inr (List·Memᴰ·head e)
-    behind ih (inr x) = deeper (ih x)
-
-    go : (t : Bool) → List·Memᴰ q (cond t (p ∷ r ∷ l) (r ∷ insert p l)) → (List·Memᴰ q (insert p l) → (q ≡ p) ⊎ List·Memᴰ q l) → (q ≡ p) ⊎ List·Memᴰ q (r ∷ l)
-    go true x ih = List·Memᴰ·cases-cons x
-    go false x ih = behind ih (List·Memᴰ·cases-cons x)
-
--- ---- pre-acknowledgement and confirmation
 
 -- by table t, AL or PAL, each unit 1 to n expects a number past q's
 pub record Beyond (n : ℕ) (t : ℕ → ℕ → ℕ) (q : Place) : Type 0 where

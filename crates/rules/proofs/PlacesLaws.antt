@@ -9,9 +9,10 @@ use borrow.Author.Tests.{eq-eqb}
 use Rattle.rules.specs.Maps.{all}
 use Rattle.rules.specs.State.{Place, State, taken, from}
 use Rattle.rules.specs.Message.{Message}
-use Rattle.rules.specs.Steps.{placed, stored, precedes, insert, withoutOldest, preacked, preackTo, moved, accepted, withoutTaken}
+use Rattle.rules.specs.Steps.{placed, stored, insert, withoutOldest, preacked, preackTo, moved, accepted, withoutTaken}
 use Rattle.rules.specs.Sound.{samePlace, once}
 use Rattle.rules.proofs.MapsLaws.{Eq?, same, other, eq?, and-left, and-right, and-intro}
+use Rattle.rules.proofs.InsertLaws.{inserted}
 use Rattle.rules.proofs.StepsLaws.{Due, Ready, preackTo-all, confirm-all}
 
 -- ---- a test of each of a list, by its members
@@ -41,12 +42,9 @@ module _ (f : Place → ℕ) where
   tally-append (p ∷ l) r = let ih = tally-append l r in omega arith
 
   pub tally-insert : (p : Place) (l : List Place) → tally (insert p l) ≡ f p + tally l
-  tally-insert p [] = refl
-  tally-insert p (q ∷ l) = go (precedes p q) (tally-insert p l)
-    where
-      go : (t : Bool) → tally (insert p l) ≡ f p + tally l → tally (cond t (p ∷ q ∷ l) (q ∷ insert p l)) ≡ f p + (f q + tally l)
-      go true ih = refl
-      go false ih = omega arith
+  tally-insert p l =
+      let i = inserted p l in
+      omega (arith, ap tally (i .whole), ap tally (i .result), tally-append (i .before) (i .after), tally-append (i .before) (p ∷ i .after))
 
   -- what is left without the oldest of a sender, and that oldest
   pub tally-withoutOldest : (j : ℕ) (l : List Place) (p : Place) (ps : List Place) → from j l ≡ p ∷ ps → f p + tally (withoutOldest j l) ≡ tally l

@@ -7,16 +7,17 @@ use Prim.Native.Nat.{ℕ, _+_, _-_, _*_, _≤_, _<_, max}
 use native.Mathlib.Omega.{arith}
 use lib.Dec.{eqb, leb, ltb}
 use lib.ListN.{length}
-use borrow.Author.Tests.{ltb-true, ltb-false, leb-true, leb-false, eqb-true, eqb-false, not-false, lt-ltb, le-leb}
+use borrow.Author.Tests.{ltb-true, ltb-false, leb-true, leb-false, eqb-true, eqb-false, not-false, lt-ltb, le-leb, lt-leb, le-ltb, ne-eqb}
 use Rattle.rules.specs.Maps.{between, at}
 use Rattle.rules.specs.Message.{Request, request, encode}
 use Rattle.rules.specs.State.{State, minAL}
-use Rattle.rules.specs.Steps.{asking, isKept, resentFrom, resentTo}
+use Rattle.rules.specs.Steps.{missingFrom, missingTo, asking, isKept, resentFrom, resentTo}
 use Rattle.rules.specs.Sound.{sound}
-use Rattle.rules.specs.Calls.{written, isUnit, foreign, requestChecks, arriveRequest, makeChecks, makeRequest}
-use Rattle.rules.proofs.MapsLaws.{and-left, and-right, and-intro, between-low, between-high, at-listed}
+use Rattle.rules.specs.Calls.{written, requestChecks, arriveRequest, makeChecks, makeRequest}
+use Rattle.rules.proofs.MapsLaws.{and-left, and-right, and-intro, between-low, between-high, is-between, at-listed}
 use Rattle.rules.proofs.CallsLaws.{Passed, request-cases, make-cases}
 use Rattle.rules.proofs.ChecksLaws.{or-left, or-right, refused-not}
+use Rattle.rules.proofs.AcceptedLaws.{Comes, passed-comes}
 use Rattle.rules.proofs.SoundLaws.{Sound, sound-facts}
 
 -- ---- which numbers are kept
@@ -50,7 +51,7 @@ pub record Asks (s : State) (k : ℕ) (out : List ℕ) (r : Request) (output : L
   pub frame : output ≡ written out (encode (request r))
 
 passed-asks : (s : State) (k : ℕ) (out : List ℕ) → Passed (makeChecks s k out) → Asks s k out (asking s k) (written out (encode (request (asking s k))))
-unfolding makeChecks isUnit asking
+unfolding makeChecks asking
 passed-asks s k out h =
     let unit : between 1 (s .n) k ≡ true = not-false (between 1 (s .n) k) (search (or-left, or-right)) in
     let low = between-low 1 (s .n) k unit in
@@ -60,7 +61,7 @@ passed-asks s k out h =
       k-low = low;
       k-high = high;
       other = eqb-false k (s .me) (search (or-left, or-right));
-      missing = leb-false (s .heard k) (s .req k) (search);
+      missing = omega (arith, leb-false (missingTo s k) (missingFrom s k) (search));
       long = ltb-false (length out) (33 + 4 * s .n) (search);
       group = refl;
       from = refl;
@@ -76,35 +77,31 @@ unfolding makeChecks
 asked-facts s k out =
     make-cases s (λ r. r .answer ≡ 0 → Asks s k out (asking s k) (r .output)) k out (λ a r e. absurd (omega (arith, refused-not r refl))) (λ h e. passed-asks s k out h)
 
+-- where a number of k is missing, REQ_k itself included, it is asked for
+pub asks-missing : (s : State) (k : ℕ) (out : List ℕ) → sound s ≡ true → 1 ≤ k → k ≤ s .n → k ≢ s .me → s .req k < s .heard k → 33 + 4 * s .n ≤ length out
+    → makeRequest s k out .answer ≡ 0
+unfolding makeRequest makeChecks
+asks-missing s k out h low high other missing long =
+    rw
+    (h, is-between 1 (s .n) k low high, ne-eqb k (s .me) other, lt-leb (s .heard k) (s .req k) missing,
+    le-ltb (length out) (33 + 4 * s .n) long)
+
 -- ---- answering one
 
 pub record Answers (s : State) (r : Request) (numbers : List ℕ) : Type 0 where
-  pub sound : Sound s
-  pub group : r .cid ≡ s .cid
-  pub count : length (r .ack) ≡ s .n
-  pub src-low : 1 ≤ r .src
-  pub src-high : r .src ≤ s .n
-  pub other : r .src ≢ s .me
+  pub comes : Comes s (r .cid) (r .src) (r .ack)
   pub mine : r .lsrc ≡ s .me
-  pub own-ack : at (r .ack) (s .me) ≤ s .seq
   pub past : r .lseq ≤ s .seq
   -- the range: from the larger of ACK_i and minAL_i, ending before LSEQ
   pub range : numbers ≡ max (at (r .ack) (s .me)) (minAL s (s .me)) ∷ (r .lseq - 1) ∷ []
   pub some : max (at (r .ack) (s .me)) (minAL s (s .me)) < r .lseq
 
 passed-answers : (s : State) (r : Request) → Passed (requestChecks s r) → Answers s r (resentFrom s r ∷ (resentTo s r - 1) ∷ [])
-unfolding requestChecks foreign isUnit resentFrom
+unfolding requestChecks resentFrom
 passed-answers s r h =
-    let unit : between 1 (s .n) (r .src) ≡ true = not-false (between 1 (s .n) (r .src)) (search (or-left, or-right)) in
     record {
-      sound = sound-facts s (not-false (sound s) (search));
-      group = eqb-true (r .cid) (s .cid) (not-false (eqb (r .cid) (s .cid)) (search));
-      count = eqb-true (length (r .ack)) (s .n) (not-false (eqb (length (r .ack)) (s .n)) (search (or-left, or-right)));
-      src-low = between-low 1 (s .n) (r .src) unit;
-      src-high = between-high 1 (s .n) (r .src) unit;
-      other = eqb-false (r .src) (s .me) (search);
+      comes = passed-comes s (r .cid) (r .src) (r .ack) (search) (search) (search (or-left, or-right)) (search) (search (or-left, or-right));
       mine = eqb-true (r .lsrc) (s .me) (not-false (eqb (r .lsrc) (s .me)) (search));
-      own-ack = ltb-false (s .seq) (at (r .ack) (s .me)) (search (or-left, or-right));
       past = ltb-false (s .seq) (r .lseq) (search (or-left, or-right));
       range = refl;
       some = leb-false (r .lseq) (resentFrom s r) (search);

@@ -1,39 +1,53 @@
--- A send as an acceptance: the unit that keeps the frame, with SEQ raised, accepts its own message.
+-- A send that answers 0: what it found, and what its message carries.
+use mathlib.Core.Bool.{false}
 use mathlib.Core.List.{List}
 use mathlib.Core.Path.{_≡_, refl, _∙_}
-use Prim.Native.Nat.{ℕ, suc, _+_, _≤_}
+use Prim.Native.Nat.{ℕ, _+_, _*_, _/_, _≤_, _<_}
+use native.Mathlib.Omega.{arith}
 use lib.ListN.{length}
-use Rattle.rules.specs.Maps.{upd, at}
-use Rattle.rules.specs.Message.{Message, message, encode}
-use Rattle.rules.specs.State.{State, taken, places}
-use Rattle.rules.specs.Steps.{outgoing, accepted, sent}
-use Rattle.rules.proofs.MapsLaws.{length-listed, at-listed}
-use Rattle.rules.proofs.SoundLaws.{Sound}
+use borrow.Author.Tests.{ltb-true, ltb-false, leb-false, not-false}
+use Rattle.rules.specs.Maps.{at, least}
+use Rattle.rules.specs.Message.{Message, last}
+use Rattle.rules.specs.State.{State, minAL, places, taken}
+use Rattle.rules.specs.Steps.{window, maySend, outgoing}
+use Rattle.rules.specs.Sound.{sound}
+use Rattle.rules.specs.Calls.{full, sendChecks, send}
+use Rattle.rules.proofs.MapsLaws.{least-le, length-listed, at-listed}
+use Rattle.rules.proofs.CallsLaws.{Passed, send-cases}
+use Rattle.rules.proofs.ChecksLaws.{refused-not}
+use Rattle.rules.proofs.SoundLaws.{Sound, sound-facts}
 use Rattle.rules.proofs.SlotsLaws.{free-taken}
 
--- s, with m's frame kept and SEQ raised
-abbrev pub keeping : State → Message → State
-keeping s m =
+pub record Sends (s : State) (d out : List ℕ) : Type 0 where
+  pub sound : Sound s
+  pub short : length d ≤ 48
+  pub seq : s .seq < last
+  -- the window is open, by W and by the places that each unit has
+  pub wide : s .seq < minAL s (s .me) + s .w
+  pub ahead : (j : ℕ) → 1 ≤ j → j ≤ s .n → s .seq < s .al (s .me) j + s .w
+  pub spared : s .seq < minAL s (s .me) + least (s .n) (s .buf) / s .n
+  pub room : full s (s .me) ≡ false
+  pub long : 37 + 4 * s .n + length d ≤ length out
+
+pub passed-sends : (s : State) (d out : List ℕ) → Passed (sendChecks s d out) → Sends s d out
+unfolding sendChecks maySend window minAL
+passed-sends s d out h =
+    let f : Sound s = sound-facts s (not-false (sound s) (search)) in
+    let shut : s .seq < minAL s (s .me) + window s = ltb-true (s .seq) (minAL s (s .me) + window s) (not-false (maySend s) (search)) in
     record {
-      me = s .me;
-      n = s .n;
-      w = s .w;
-      cid = s .cid;
-      seq = suc (s .seq);
-      req = s .req;
-      al = s .al;
-      pal = s .pal;
-      buf = s .buf;
-      heard = s .heard;
-      kept = upd (s .kept) (s .seq) (encode (message m));
-      waiting = s .waiting;
-      ordered = s .ordered;
-      confirmed = s .confirmed;
+      sound = f;
+      short = ltb-false 48 (length d) (search);
+      seq = leb-false last (s .seq) (search);
+      wide = omega arith;
+      ahead = λ j a b. omega (arith, least-le (s .n) (s .al (s .me)) j a b);
+      spared = omega arith;
+      room = search;
+      long = ltb-false (length out) (37 + 4 * s .n + length d) (search);
     }
 
-pub sent-accepted : (s : State) (m : Message) → sent s m ≡ accepted (keeping s m) m
-unfolding sent
-sent-accepted s m = refl
+pub sent-facts : (s : State) (d out : List ℕ) → send s d out .answer ≡ 0 → Sends s d out
+unfolding sendChecks
+sent-facts s d out = send-cases s (λ r. r .answer ≡ 0 → Sends s d out) d out (λ a r e. absurd (omega (arith, refused-not r refl))) (λ h e. passed-sends s d out h)
 
 -- ---- what the message says
 

@@ -9,6 +9,7 @@ use lib.ListN.{replicate}
 use Rattle.rules.specs.Maps.{among}
 use Rattle.rules.specs.Message.{Said, message, request, decode}
 use Rattle.rules.specs.State.{State, closed}
+use Rattle.rules.specs.Steps.{withHeard}
 use Rattle.rules.specs.Calls.{opening, Result, Call, sends, hears, asks, copies, takes, call}
 
 -- ---- 01's order of the refusals
@@ -51,26 +52,6 @@ noting (hears l) = 9 ∷ 10 ∷ 12 ∷ []
 noting (asks k out) = []
 noting (copies x out) = []
 noting (takes out) = []
-
--- s, with this HEARD
-abbrev pub withHeard : State → (ℕ → ℕ) → State
-withHeard s heard =
-    record {
-      me = s .me;
-      n = s .n;
-      w = s .w;
-      cid = s .cid;
-      seq = s .seq;
-      req = s .req;
-      al = s .al;
-      pal = s .pal;
-      buf = s .buf;
-      heard = heard;
-      kept = s .kept;
-      waiting = s .waiting;
-      ordered = s .ordered;
-      confirmed = s .confirmed;
-    }
 
 -- ---- the statement
 

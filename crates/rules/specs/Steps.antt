@@ -63,8 +63,9 @@ stored s p =
 
 -- ---- missing numbers
 
-unfoldable pub noted : State → Message → State
-noted s p =
+-- s, with this HEARD
+abbrev pub withHeard : State → (ℕ → ℕ) → State
+withHeard s heard =
     record {
       me = s .me;
       n = s .n;
@@ -75,12 +76,15 @@ noted s p =
       al = s .al;
       pal = s .pal;
       buf = s .buf;
-      heard = λ k. max (s .heard k) (cond (eqb k (p .src)) (suc (p .seq)) (at (p .ack) k));
+      heard = heard;
       kept = s .kept;
       waiting = s .waiting;
       ordered = s .ordered;
       confirmed = s .confirmed;
     }
+
+unfoldable pub noted : State → Message → State
+noted s p = withHeard s (λ k. max (s .heard k) (cond (eqb k (p .src)) (suc (p .seq)) (at (p .ack) k)))
 
 -- the missing numbers of k: from the first up to but not including the second
 abbrev pub missingFrom : State → ℕ → ℕ
@@ -179,11 +183,10 @@ confirm s = confirmWhile (s .ordered) s
 unfoldable pub accepted : State → Message → State
 accepted s p = confirm (preackTo (s .n) (stored s p))
 
--- m is kept, and accepted by its own sender at once
-unfoldable pub sent : State → Message → State
-sent s m =
-    accepted
-    (record {
+-- s, with m's frame kept and SEQ raised
+abbrev pub keeping : State → Message → State
+keeping s m =
+    record {
       me = s .me;
       n = s .n;
       w = s .w;
@@ -198,8 +201,11 @@ sent s m =
       waiting = s .waiting;
       ordered = s .ordered;
       confirmed = s .confirmed;
-    })
-    m
+    }
+
+-- m is kept, and accepted by its own sender at once
+unfoldable pub sent : State → Message → State
+sent s m = accepted (keeping s m) m
 
 -- the oldest confirmed message is gone
 unfoldable pub withoutTaken : State → State

@@ -10,13 +10,13 @@ use lib.ListN.{length}
 use borrow.Author.Tests.{ltb-false, leb-true, eqb-true, eqb-false, not-false}
 use Rattle.rules.specs.Maps.{between, at, every}
 use Rattle.rules.specs.Message.{Message}
-use Rattle.rules.specs.State.{State, places}
+use Rattle.rules.specs.State.{State, minAL, places}
 use Rattle.rules.specs.Steps.{known}
 use Rattle.rules.specs.Sound.{sound}
 use Rattle.rules.specs.Calls.{full, foreign, dataChecks, arriveData}
-use Rattle.rules.proofs.MapsLaws.{Eq?, same, other, eq?, between-low, between-high, every-at}
+use Rattle.rules.proofs.MapsLaws.{Eq?, same, other, eq?, between-low, between-high, least-le, every-at}
 use Rattle.rules.proofs.CallsLaws.{Passed, data-cases}
-use Rattle.rules.proofs.ChecksLaws.{or-left, or-right, refused-not}
+use Rattle.rules.proofs.ChecksLaws.{or-left, or-right, refused-above}
 use Rattle.rules.proofs.SoundLaws.{Sound, sound-facts}
 
 -- ---- what both kinds of frame are checked for
@@ -69,18 +69,26 @@ known-at s p h k a b d = go (eq? k (p .src)) (every-at 1 (s .n) (λ k. cond (eqb
 pub passed-accepts : (s : State) (p : Message) → Passed (dataChecks s p) → Accepts s p
 unfolding dataChecks
 passed-accepts s p h =
+    let all : every 1 (s .n) (λ k. leb (s .al k (p .src)) (at (p .ack) k)) ≡ true = not-false _ (search) in
     record {
       comes = passed-comes s (p .cid) (p .src) (p .ack) (search) (search) (search) (search) (search (or-left, or-right));
       its-ack = eqb-true (at (p .ack) (p .src)) (p .seq) (not-false (eqb (at (p .ack) (p .src)) (p .seq)) (search (or-left, or-right)));
       buf = ltb-false (places s) (p .buf) (search (or-left, or-right));
       next = omega (arith, ltb-false (p .seq) (s .req (p .src)) (search), ltb-false (s .req (p .src)) (p .seq) (search));
       known = known-at s p (not-false (known s p) (search));
-      risen = λ k a b.
-          leb-true (s .al k (p .src)) (at (p .ack) k)
-          (every-at 1 (s .n) (λ k. leb (s .al k (p .src)) (at (p .ack) k)) (not-false (every 1 (s .n) (λ k. leb (s .al k (p .src)) (at (p .ack) k))) (search)) k a (omega arith));
+      risen = λ k a b. leb-true (s .al k (p .src)) (at (p .ack) k) (every-at 1 (s .n) (λ k. leb (s .al k (p .src)) (at (p .ack) k)) all k a (omega arith));
       room = search;
     }
 
 pub accepted-facts : (s : State) (p : Message) → arriveData s p .answer ≡ 0 → Accepts s p
 unfolding dataChecks
-accepted-facts s p = data-cases s (λ r. r .answer ≡ 0 → Accepts s p) p (λ a r e. absurd (omega (arith, refused-not r refl))) (λ h e. passed-accepts s p h)
+accepted-facts s p =
+    data-cases s (λ r. r .answer ≡ 0 → Accepts s p) p (λ a r e. absurd (omega (arith, refused-above 0 r refl))) (λ h e. passed-accepts s p h)
+
+-- so what it expects next of this unit is not below what is kept
+pub accepts-low : (s : State) (p : Message) → Accepts s p → minAL s (s .me) ≤ at (p .ack) (s .me)
+unfolding minAL
+accepts-low s p f =
+    let h = f .comes in
+    let r = h .sound .ranges in
+    omega (arith, least-le (s .n) (s .al (s .me)) (p .src) (h .src-low) (h .src-high), f .risen (s .me) (r .i-low) (r .i-high))

@@ -1,37 +1,32 @@
 -- Every call on a sound unit leaves a sound one; answer 1 is for units that are not sound, and leaves them as they are.
-use mathlib.Core.Bool.{true, false, not, true≢false}
+use mathlib.Core.Bool.{true, false, true≢false}
 use mathlib.Core.Logic.{_↔_}
-use mathlib.Core.List.{List, _∷_}
-use mathlib.Core.Option.{Option, none, some}
-use mathlib.Core.Path.{_≡_, refl, sym, ap, subst, _∙_}
+use mathlib.Core.List.{List}
+use mathlib.Core.Path.{_≡_, refl, sym, ap, _∙_}
 use Prim.Native.Nat.{ℕ, suc, _+_, _*_, _≤_, _<_}
 use native.Mathlib.Omega.{arith}
 use lib.ListN.{length}
-use borrow.Author.Tests.{not-true, not-false}
 use Rattle.rules.specs.Maps.{among}
-use Rattle.rules.specs.Message.{Message, Said, message, request, encode, decode}
+use Rattle.rules.specs.Message.{Message, message, encode}
 use Rattle.rules.specs.State.{State, minAL}
 use Rattle.rules.specs.Steps.{keeping, outgoing, sent}
 use Rattle.rules.specs.Sound.{sound}
-use Rattle.rules.specs.Calls.{Check, _⇒_, full, sendChecks, dataChecks, requestChecks, makeChecks, copyChecks, takeChecks, Call, sends, hears, asks, copies, takes, call}
+use Rattle.rules.specs.Calls.{full, Call, sends, hears, asks, copies, takes, call}
 use Rattle.rules.specs.Demand1.{noting}
-use Rattle.rules.proofs.MapsLaws.{upd-all, upd-same, upd-other, least-le}
+use Rattle.rules.proofs.MapsLaws.{upd-all, upd-same, upd-other}
 use Rattle.rules.proofs.MessageLaws.{length-message}
-use Rattle.rules.proofs.CallsLaws.{Passed, Refused, now, later}
-use Rattle.rules.proofs.CallCases.{checksOfSaid, checksOf, call-cases, next-all, refusedBy-answer, done-answer, done-passed}
-use Rattle.rules.proofs.ChecksLaws.{answersOf, refused-among}
+use Rattle.rules.proofs.CallCases.{call-cases, next-all, Refuses, is-unsound, is-sound, refused-cases, done-answer, done-sound}
 use Rattle.rules.proofs.Demand1Laws.{demand1}
 use Rattle.rules.proofs.SoundLaws.{Kept, Sound, sound-facts, facts-sound}
 use Rattle.rules.proofs.LimitsLaws.{Limits, decode-limits}
 use Rattle.rules.proofs.KeepsSound.{Storable, accepted-sound, withoutTaken-sound, noted-sound}
-use Rattle.rules.proofs.AcceptedLaws.{Accepts, passed-accepts}
+use Rattle.rules.proofs.AcceptedLaws.{Accepts, passed-accepts, accepts-low}
 use Rattle.rules.proofs.SendLaws.{Sends, passed-sends, outgoing-carries}
 use Rattle.rules.proofs.TakenLaws.{passed-takes}
 
 -- ---- an arrival
 
 pub arrival-storable : (s : State) (p : Message) → Accepts s p → Limits p → Storable s p
-unfolding minAL
 arrival-storable s p f m =
     let h = f .comes in
     let g = h .sound in
@@ -53,7 +48,7 @@ arrival-storable s p f m =
       };
       room = f .room;
       own = upd-other (s .req) (p .src) (suc (p .seq)) (s .me) (λ e. h .other (sym e)) ∙ g .own;
-      low = omega (arith, least-le (s .n) (s .al (s .me)) (p .src) (h .src-low) (h .src-high), f .risen (s .me) (g .ranges .i-low) (g .ranges .i-high));
+      low = accepts-low s p f;
       high = h .own-ack;
     }
 
@@ -63,10 +58,12 @@ sent-kept : (s : State) (d out : List ℕ) → Sends s d out → Kept (keeping s
 unfolding minAL outgoing
 sent-kept s d out f =
     record {
-      short = upd-all (s .kept) (s .seq) frame (λ x l. minAL s (s .me) ≤ x → x < suc (s .seq) → 37 + 4 * s .n ≤ length l) (λ a b. omega (arith, long))
-          (λ x e a b. g .kept .short x a (omega arith));
-      long = upd-all (s .kept) (s .seq) frame (λ x l. minAL s (s .me) ≤ x → x < suc (s .seq) → length l ≤ 85 + 4 * s .n) (λ a b. omega (arith, long, f .short))
-          (λ x e a b. g .kept .long x a (omega arith));
+      short =
+          upd-all (s .kept) (s .seq) frame (λ x l. minAL s (s .me) ≤ x → x < suc (s .seq) → 37 + 4 * s .n ≤ length l)
+          (λ a b. omega (arith, long)) (λ x e a b. g .kept .short x a (omega arith));
+      long =
+          upd-all (s .kept) (s .seq) frame (λ x l. minAL s (s .me) ≤ x → x < suc (s .seq) → length l ≤ 85 + 4 * s .n)
+          (λ a b. omega (arith, long, f .short)) (λ x e a b. g .kept .long x a (omega arith));
     }
   where
     g : Sound s
@@ -123,42 +120,21 @@ call-sound s c h =
 
 -- ---- answer 1
 
--- the first check of each call is for soundness, and no other answers 1
-record First (s : State) (l : List Check) : Type 0 where
-  pub rest : List Check
-  pub whole : l ≡ (not (sound s) ⇒ 1) ∷ rest
-  pub others : among 1 (answersOf rest) ≡ false
-
-checksOf-first : (s : State) (c : Call) → First s (checksOf s c)
-unfolding sendChecks dataChecks requestChecks makeChecks copyChecks takeChecks
-checksOf-first s (sends d out) = record { rest = _; whole = refl; others = refl }
-checksOf-first s (hears l) = go (decode l)
-  where
-    go : (o : Option Said) → First s (checksOfSaid s o)
-    go none = record { rest = _; whole = refl; others = refl }
-    go (some (message p)) = record { rest = _; whole = refl; others = refl }
-    go (some (request r)) = record { rest = _; whole = refl; others = refl }
-checksOf-first s (asks k out) = record { rest = _; whole = refl; others = refl }
-checksOf-first s (copies x out) = record { rest = _; whole = refl; others = refl }
-checksOf-first s (takes out) = record { rest = _; whole = refl; others = refl }
-
 -- answer 1 is given exactly to units that are not sound
 pub one-unsound : (s : State) (c : Call) → (call s c .answer ≡ 1) ↔ (sound s ≡ false)
 one-unsound s c = (
-  call-cases s (λ r. r .answer ≡ 1 → sound s ≡ false) c (λ a r e. refused a (sym (refusedBy-answer s c a) ∙ e) (subst (λ (l : List Check). Refused a l) (f .whole) r)) (λ r d e. absurd (omega (arith, done-answer s d))),
-  λ h. call-cases s (λ r. r .answer ≡ 1) c (λ a r. refusedBy-answer s c a ∙ only a h (subst (λ (l : List Check). Refused a l) (f .whole) r)) (λ r d. absurd (true≢false (sym (not-false (sound s) (subst (λ (l : List Check). Passed l) (f .whole) (done-passed s d) .0)) ∙ h))),
+  call-cases s (λ r. r .answer ≡ 1 → sound s ≡ false) c (λ a r e. only a e (refused-cases s c a r))
+      (λ r d e. absurd (omega (arith, done-answer s d))),
+  λ h. call-cases s (λ r. r .answer ≡ 1) c (λ a r. one a h (refused-cases s c a r)) (λ r d. absurd (true≢false (sym (done-sound s d) ∙ h))),
 )
   where
-    f : First s (checksOf s c)
-    f = checksOf-first s c
+    only : (a : ℕ) → a ≡ 1 → Refuses s a → sound s ≡ false
+    only a e (is-unsound x h) = h
+    only a e (is-sound x h) = absurd (omega arith)
 
-    refused : (a : ℕ) → a ≡ 1 → Refused a ((not (sound s) ⇒ 1) ∷ f .rest) → sound s ≡ false
-    refused a e (now h x) = not-true (sound s) h
-    refused a e (later h r) = absurd (true≢false (sym (refused-among r) ∙ ap (λ (x : ℕ). among x (answersOf (f .rest))) e ∙ f .others))
-
-    only : (a : ℕ) → sound s ≡ false → Refused a ((not (sound s) ⇒ 1) ∷ f .rest) → a ≡ 1
-    only a h (now x e) = sym e
-    only a h (later x r) = absurd (true≢false (sym (not-false (sound s) x) ∙ h))
+    one : (a : ℕ) → sound s ≡ false → Refuses s a → a ≡ 1
+    one a h (is-unsound x g) = x
+    one a h (is-sound x g) = absurd (true≢false (sym g ∙ h))
 
 pub one-unchanged : (s : State) (c : Call) → call s c .answer ≡ 1 → call s c .next ≡ s
 one-unchanged s c e = demand1 s c .refuses (λ z. omega arith) .heard (ap (λ (x : ℕ). among x (noting c)) e ∙ quiet c)

@@ -30,6 +30,7 @@ refused-among {a} (later {c} {l} h r) = go (eqb a (c .answer)) (refused-among r)
     go true ih = refl
     go false ih = ih
 
-pub refused-not : {a : ℕ} {l : List Check} → Refused a l → all (λ x. ltb 0 x) (answersOf l) ≡ true → 0 < a
-refused-not {a} (now {c} {l} h e) p = subst (λ x. 0 < x) e (ltb-true 0 (c .answer) (and-left (ltb 0 (c .answer)) (all (λ x. ltb 0 x) (answersOf l)) p))
-refused-not {a} (later {c} {l} h r) p = refused-not r (and-right (ltb 0 (c .answer)) (all (λ x. ltb 0 x) (answersOf l)) p)
+pub refused-above : (b : ℕ) {a : ℕ} {l : List Check} → Refused a l → all (λ x. ltb b x) (answersOf l) ≡ true → b < a
+refused-above b {a} (now {c} {l} h e) p =
+    subst (λ x. b < x) e (ltb-true b (c .answer) (and-left (ltb b (c .answer)) (all (λ x. ltb b x) (answersOf l)) p))
+refused-above b {a} (later {c} {l} h r) p = refused-above b r (and-right (ltb b (c .answer)) (all (λ x. ltb b x) (answersOf l)) p)

@@ -15,7 +15,7 @@ use Rattle.rules.specs.Steps.{outgoing, isKept}
 use Rattle.rules.specs.Sound.{sound}
 use Rattle.rules.specs.Calls.{Result, refusal, written, sendChecks, send, copyChecks, copy, Call, sends, call}
 use Rattle.rules.proofs.CallsLaws.{send-cases}
-use Rattle.rules.proofs.ChecksLaws.{refused-not}
+use Rattle.rules.proofs.ChecksLaws.{refused-above}
 use Rattle.rules.proofs.SoundLaws.{sound-facts}
 use Rattle.rules.proofs.CallSound.{call-sound}
 use Rattle.rules.proofs.KeptLaws.{Keeps, keeps-refl, keeps-trans, Adds, sent-adds, call-keeps}
@@ -69,7 +69,7 @@ pub record Wrote (s : State) (d out : List ℕ) (r : Result) : Type 0 where
 pub send-wrote : (s : State) (d out : List ℕ) → send s d out .answer ≡ 0 → Wrote s d out (send s d out)
 unfolding sendChecks
 send-wrote s d out =
-    send-cases s (λ r. r .answer ≡ 0 → Wrote s d out r) d out (λ a r e. absurd (omega (arith, refused-not r refl)))
+    send-cases s (λ r. r .answer ≡ 0 → Wrote s d out r) d out (λ a r e. absurd (omega (arith, refused-above 0 r refl)))
     (λ h e.
     let f : sound s ≡ true = not-false (sound s) (search) in
     record { sound = f; numbers = refl; output = refl; adds = sent-adds s d (sound-facts s f) })

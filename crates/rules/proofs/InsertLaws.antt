@@ -16,14 +16,30 @@ pub record Inserted (p : Place) (l : List Place) : Type 0 where
   pub stopped : (q : Place) (qs : List Place) → after ≡ q ∷ qs → precedes p q ≡ true
 
 pub inserted : (p : Place) (l : List Place) → Inserted p l
-inserted p [] = record { before = []; after = []; whole = refl; result = refl; passed = λ q m. absurd (List·Memᴰ·not-nil m); stopped = λ q qs e. absurd (nil≢cons e) }
+inserted p [] =
+    record {
+      before = [];
+      after = [];
+      whole = refl;
+      result = refl;
+      passed = λ q m. absurd (List·Memᴰ·not-nil m);
+      stopped = λ q qs e. absurd (nil≢cons e);
+    }
 inserted p (q ∷ l) = go (precedes p q) refl (inserted p l)
   where
     at-head : precedes p q ≡ true → (r : Place) (rs : List Place) → q ∷ l ≡ r ∷ rs → precedes p r ≡ true
     at-head e r rs x = subst (λ (z : Place). precedes p z ≡ true) (head-eq-of-cons-eq x) e
 
     go : (t : Bool) → precedes p q ≡ t → Inserted p l → Inserted p (q ∷ l)
-    go true e i = record { before = []; after = q ∷ l; whole = refl; result = ap (λ t. cond t (p ∷ q ∷ l) (q ∷ insert p l)) e; passed = λ r m. absurd (List·Memᴰ·not-nil m); stopped = at-head e }
+    go true e i =
+        record {
+          before = [];
+          after = q ∷ l;
+          whole = refl;
+          result = ap (λ t. cond t (p ∷ q ∷ l) (q ∷ insert p l)) e;
+          passed = λ r m. absurd (List·Memᴰ·not-nil m);
+          stopped = at-head e;
+        }
     go false e i =
         record {
           before = q ∷ i .before;

@@ -1,21 +1,21 @@
 -- The steps keep soundness: settling, an acceptance, a take, and what is noted of missing numbers.
-use mathlib.Core.Bool.{Bool, true, false, cond, not, _&&_}
+use mathlib.Core.Bool.{Bool, true, false, not, _&&_}
 use mathlib.Core.Logic.{_⊎_, inl, inr}
-use mathlib.Core.List.{List, [], _∷_, _++_, nil≢cons, head-eq-of-cons-eq, List·Memᴰ, List·Memᴰ·head, List·Memᴰ·tail, List·Memᴰ·cases-cons, Memᴰ·append-right}
-use mathlib.Core.Path.{_≡_, refl, sym, subst, _∙_}
+use mathlib.Core.List.{List, _∷_, _++_, List·Memᴰ, List·Memᴰ·tail, List·Memᴰ·cases-cons, Memᴰ·append-right}
+use mathlib.Core.Path.{_≡_, refl, sym, ap, subst, _∙_}
 use Prim.Native.Nat.{ℕ, suc, _+_, _≤_, _<_, max}
 use native.Mathlib.Omega.{arith}
 use lib.Dec.{eqb}
 use borrow.Author.Tests.{le-leb}
 use Rattle.rules.specs.Maps.{all, upd, column, at}
 use Rattle.rules.specs.Message.{Message}
-use Rattle.rules.specs.State.{Place, State, minAL, taken, from}
+use Rattle.rules.specs.State.{Place, State, minAL, taken}
 use Rattle.rules.specs.Steps.{placed, stored, noted, withLists, preacked, preackTo, moved, accepted, withoutTaken}
 use Rattle.rules.specs.Sound.{placeFits}
 use Rattle.rules.specs.Calls.{full}
 use Rattle.rules.proofs.MapsLaws.{Eq?, same, other, eq?, upd-all, column-all, column-same, least-le, least-glb}
 use Rattle.rules.proofs.StepsLaws.{Due, Ready, preackTo-all, confirm-all}
-use Rattle.rules.proofs.PlacesLaws.{bit, all-mem, mem-all, tally, all-tally, tally-all, tally-preacked, tally-moved, tally-stored, tally-withoutTaken, stands, count}
+use Rattle.rules.proofs.PlacesLaws.{bit, all-mem, mem-all, from-mem, tally, all-tally, tally-preacked, tally-moved, tally-stored, tally-withoutTaken, stands, count}
 use Rattle.rules.proofs.SlotsLaws.{freeSlot-lt, placed-free}
 use Rattle.rules.proofs.SoundLaws.{Ranges, Nexts, Window, Within, Held, Kept, Sound, placeFits-facts, facts-placeFits}
 
@@ -26,20 +26,12 @@ pub held-same : (s : State) (l r : List Place) → ((f : Place → ℕ) → tall
     → ((p : Place) → List·Memᴰ p l → Held (s .n) (s .w) p) → (p : Place) → List·Memᴰ p r → Held (s .n) (s .w) p
 held-same s l r e h p m = placeFits-facts s p (all-mem (placeFits s) every m)
   where
-    bad : Place → ℕ
-    bad q = bit (not (placeFits s q))
-
     every : all (placeFits s) r ≡ true
-    every = tally-all (placeFits s) r (e bad ∙ all-tally (placeFits s) l (mem-all (placeFits s) l (λ q n. facts-placeFits s q (h q n))))
-
-pub from-mem : (j : ℕ) (l : List Place) (p : Place) (ps : List Place) → from j l ≡ p ∷ ps → List·Memᴰ p l
-unfolding from
-from-mem j [] p ps e = absurd (nil≢cons e)
-from-mem j (q ∷ l) p ps e = go (eqb (q .src) j) e (λ x. from-mem j l p ps x)
-  where
-    go : (t : Bool) → cond t (q ∷ from j l) (from j l) ≡ p ∷ ps → (from j l ≡ p ∷ ps → List·Memᴰ p l) → List·Memᴰ p (q ∷ l)
-    go true e ih = List·Memᴰ·head (sym (head-eq-of-cons-eq e))
-    go false e ih = List·Memᴰ·tail (ih e)
+    every =
+        all-tally (placeFits s) r
+        ∙ ap (λ (x : ℕ). eqb x 0) (e (λ q. bit (not (placeFits s q))))
+        ∙ sym (all-tally (placeFits s) l)
+        ∙ mem-all (placeFits s) l (λ q n. facts-placeFits s q (h q n))
 
 -- ---- settling
 
@@ -63,8 +55,8 @@ pub preacked-sound : (j : ℕ) (s : State) (p : Place) (ps : List Place) → Sou
 unfolding preacked
 preacked-sound j s p ps f due =
     relisted s _ _ _ _ f
-    (λ k c a b x y. column-all (s .pal) (p .src) (at (p .ack)) (λ k c z. 1 ≤ k → k ≤ s .n → 1 ≤ c → c ≤ s .n → 0 < z) (λ k a b x y. mine .says .acks k a b)
-    (λ k c d. f .nexts .pal k c) k c a b x y)
+    (column-all (s .pal) (p .src) (at (p .ack)) (λ k c z. 1 ≤ k → k ≤ s .n → 1 ≤ c → c ≤ s .n → 0 < z) (λ k a b x y. mine .says .acks k a b)
+    (λ k c d. f .nexts .pal k c))
     (held-same s (taken s) (taken (preacked s p)) (λ g. tally-preacked g j s p ps due) (f .held))
     (λ i k. subst (λ z. z ≤ 1) (sym (tally-preacked (λ q. bit (stands i k q)) j s p ps due)) (f .once i k))
   where
@@ -136,8 +128,12 @@ module _ (s : State) (p : Message) (f : Storable s p) where
       record {
         seq = f .nexts .seq;
         req = upd-all (s .req) (p .src) (suc (p .seq)) (λ k x. 1 ≤ k → k ≤ s .n → 0 < x) (λ a b. omega arith) (λ k d. f .nexts .req k);
-        heard = upd-all (s .heard) (p .src) (max (s .heard (p .src)) (suc (p .seq))) (λ k x. 1 ≤ k → k ≤ s .n → 0 < x) (λ a b. omega arith) (λ k d. f .nexts .heard k);
-        al = column-all (s .al) (p .src) (at (p .ack)) (λ k c x. 1 ≤ k → k ≤ s .n → 1 ≤ c → c ≤ s .n → 0 < x) (λ k a b x y. f .says .acks k a b) (λ k c d. f .nexts .al k c);
+        heard =
+            upd-all (s .heard) (p .src) (max (s .heard (p .src)) (suc (p .seq))) (λ k x. 1 ≤ k → k ≤ s .n → 0 < x) (λ a b. omega arith)
+            (λ k d. f .nexts .heard k);
+        al =
+            column-all (s .al) (p .src) (at (p .ack)) (λ k c x. 1 ≤ k → k ≤ s .n → 1 ≤ c → c ≤ s .n → 0 < x)
+            (λ k a b x y. f .says .acks k a b) (λ k c d. f .nexts .al k c);
         pal = f .nexts .pal;
       }
 
@@ -148,7 +144,13 @@ module _ (s : State) (p : Message) (f : Storable s p) where
   unfolding stored minAL
   stored-window =
       record {
-        low = omega (arith, column-same (s .al) (p .src) (at (p .ack)) (s .me), f .high, least-le (s .n) (column (s .al) (p .src) (at (p .ack)) (s .me)) (p .src) (f .says .src-low) (f .says .src-high));
+        low =
+            omega (
+              arith,
+              column-same (s .al) (p .src) (at (p .ack)) (s .me),
+              f .high,
+              least-le (s .n) (column (s .al) (p .src) (at (p .ack)) (s .me)) (p .src) (f .says .src-low) (f .says .src-high),
+            );
         high = omega (arith, stored-rises, f .window .high);
       }
 

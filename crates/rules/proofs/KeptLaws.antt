@@ -18,7 +18,7 @@ use Rattle.rules.proofs.StepsLaws.{preackTo-all, confirm-all}
 use Rattle.rules.proofs.CallCases.{Done, done-sends, done-data, done-request, done-asks, done-copies, done-takes, call-cases, next-all}
 use Rattle.rules.proofs.Demand1Laws.{refused-refusing}
 use Rattle.rules.proofs.SoundLaws.{Sound, sound-facts}
-use Rattle.rules.proofs.AcceptedLaws.{Accepts, passed-accepts}
+use Rattle.rules.proofs.AcceptedLaws.{passed-accepts, accepts-low}
 use Rattle.rules.proofs.KeepsSound.{minAL-rises}
 use Rattle.rules.proofs.SendLaws.{outgoing-carries}
 use Rattle.rules.proofs.RequestLaws.{isKept-facts, facts-isKept}
@@ -117,7 +117,9 @@ sent-adds s d f =
       only = λ x k d.
           let new = isKept-facts (sent s m) x k in
           keeps-old s (sent s m) keeps x k (omega (arith, next));
-      frame = after .frames (s .seq) (facts-isKept (keeping s m) (s .seq) (f .window .low) (omega arith)) number ∙ upd-same (s .kept) (s .seq) (encode (message m));
+      frame =
+          after .frames (s .seq) (facts-isKept (keeping s m) (s .seq) (f .window .low) (omega arith)) number
+          ∙ upd-same (s .kept) (s .seq) (encode (message m));
     }
   where
     m : Message
@@ -136,7 +138,9 @@ sent-adds s d f =
     next = ap (λ (z : State). z .seq) (sym (settled-rest (keeping s m) m))
 
     number : isKept (sent s m) (s .seq) ≡ true
-    number = facts-isKept (sent s m) (s .seq) (omega (arith, own, accepted-low (keeping s m) m (f .ranges .i-low) (f .ranges .i-high))) (omega (arith, next))
+    number =
+        facts-isKept (sent s m) (s .seq) (omega (arith, own, accepted-low (keeping s m) m (f .ranges .i-low) (f .ranges .i-high)))
+        (omega (arith, next))
 
 -- ---- every call
 
@@ -148,15 +152,9 @@ call-keeps s c h =
       stays = keeps-refl s;
       notes = λ p. record { me = refl; seq = le-refl (s .seq); low = le-refl (minAL s (s .me)); frames = λ x a b. refl };
       sends = λ d out x. sent-adds s d (sound-facts s h) .keeps;
-      accepts = λ l p e x. arrived p (passed-accepts s p x);
+      accepts = λ l p e x. accepted-keeps s p (omega (arith, sound-facts s h .ranges .n-low)) (accepts-low s p (passed-accepts s p x));
       takes = λ out x. record { me = refl; seq = le-refl (s .seq); low = le-refl (minAL s (s .me)); frames = λ x a b. refl };
     }) c
-  where
-    arrived : (p : Message) → Accepts s p → Keeps s (accepted s p)
-    arrived p f =
-        let h = f .comes in
-        let r = h .sound .ranges in
-        accepted-keeps s p (omega arith) (omega (arith, least-le (s .n) (s .al (s .me)) (p .src) (h .src-low) (h .src-high), f .risen (s .me) (r .i-low) (r .i-high)))
 
 -- only a send raises SEQ
 pub data Sending : Call → Type 0 where

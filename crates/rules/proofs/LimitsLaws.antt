@@ -31,7 +31,9 @@ numbers-most rs (t ∷ ts) l h zero x =
     let f = is-field rs t l (and-left (fieldFits rs t l) (fits rs ts (drop (3 + lengthOf l) l)) h) in
     let r = rowOf rs t in
     rw (length-allNumbers (r .width) (lengthOf l / r .width) (drop 3 l)) (omega (arith, mul-div-le (lengthOf l) (r .width), f .greatest))
-numbers-most rs (t ∷ ts) l h (suc i) x = numbers-most rs ts (drop (3 + lengthOf l) l) (and-right (fieldFits rs t l) (fits rs ts (drop (3 + lengthOf l) l)) h) i (omega arith)
+numbers-most rs (t ∷ ts) l h (suc i) x =
+    let rest = drop (3 + lengthOf l) l in
+    numbers-most rs ts rest (and-right (fieldFits rs t l) (fits rs ts rest) h) i (omega arith)
 
 abbrev textOf : Said → List ℕ
 textOf (message m) = m .text

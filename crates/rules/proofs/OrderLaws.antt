@@ -27,7 +27,10 @@ pub record Moves (s t : State) : Type 0 where
 preacked-moves : (j : ℕ) (s t : State) (p : Place) (ps : List Place) → t .confirmed ≡ s .confirmed → Moves s t → Due j t p ps → Moves s (preacked t p)
 unfolding preacked minAL
 preacked-moves j s t p ps same h due =
-    record { preacknowledged = λ q m. go q (List·Memᴰ·append-cases (t .confirmed) m); confirmed = λ q m. inl (subst (λ (l : List Place). List·Memᴰ q l) same m) }
+    record {
+      preacknowledged = λ q m. go q (List·Memᴰ·append-cases (t .confirmed) m);
+      confirmed = λ q m. inl (subst (λ (l : List Place). List·Memᴰ q l) same m);
+    }
   where
     mine : Beyond (t .n) (t .al) p
     mine = least-beyond (t .n) (t .al) p (subst (λ (k : ℕ). p .seq < least (t .n) (t .al k)) (sym (due .src)) (due .early))
@@ -36,7 +39,8 @@ preacked-moves j s t p ps same h due =
     new q (inl e) = inr (subst (λ (z : Place). Beyond (t .n) (t .al) z) (sym e) mine)
     new q (inr m) = h .preacknowledged q (Memᴰ·append-right (t .confirmed) m)
 
-    go : (q : Place) → List·Memᴰ q (t .confirmed) ⊎ List·Memᴰ q (insert p (t .ordered)) → List·Memᴰ q (s .confirmed ++ s .ordered) ⊎ Beyond (t .n) (t .al) q
+    go : (q : Place) → List·Memᴰ q (t .confirmed) ⊎ List·Memᴰ q (insert p (t .ordered))
+        → List·Memᴰ q (s .confirmed ++ s .ordered) ⊎ Beyond (t .n) (t .al) q
     go q (inl m) = h .preacknowledged q (Memᴰ·append-left (t .ordered) m)
     go q (inr m) = new q (insert-mem p q (t .ordered) m)
 
@@ -55,7 +59,8 @@ moved-moves s t p ps h ready =
     front : (q : Place) → List·Memᴰ q (t .confirmed) ⊎ List·Memᴰ q (p ∷ []) → List·Memᴰ q (t .confirmed ++ t .ordered)
     front q (inl m) = Memᴰ·append-left (t .ordered) m
     front q (inr m) =
-        Memᴰ·append-right (t .confirmed) (subst (λ (l : List Place). List·Memᴰ q l) (sym (ready .head)) (List·Memᴰ·head (List·Memᴰ·eq-of-singleton m)))
+        Memᴰ·append-right (t .confirmed)
+        (subst (λ (l : List Place). List·Memᴰ q l) (sym (ready .head)) (List·Memᴰ·head (List·Memᴰ·eq-of-singleton m)))
 
     back : (q : Place) → List·Memᴰ q (t .confirmed ++ (p ∷ [])) ⊎ List·Memᴰ q (tail (t .ordered)) → List·Memᴰ q (t .confirmed ++ t .ordered)
     back q (inl m) = front q (List·Memᴰ·append-cases (t .confirmed) m)
@@ -63,7 +68,8 @@ moved-moves s t p ps h ready =
 
     go : (q : Place) → List·Memᴰ q (t .confirmed) ⊎ List·Memᴰ q (p ∷ []) → List·Memᴰ q (s .confirmed) ⊎ Beyond (t .n) (t .pal) q
     go q (inl m) = h .confirmed q m
-    go q (inr m) = inr (subst (λ (z : Place). Beyond (t .n) (t .pal) z) (sym (List·Memᴰ·eq-of-singleton m)) (least-beyond (t .n) (t .pal) p (ready .early)))
+    go q (inr m) =
+        inr (subst (λ (z : Place). Beyond (t .n) (t .pal) z) (sym (List·Memᴰ·eq-of-singleton m)) (least-beyond (t .n) (t .pal) p (ready .early)))
 
 pub accepted-moves : (s : State) (p : Message) → Moves s (accepted s p)
 unfolding accepted stored preacked

@@ -5,7 +5,7 @@ use mathlib.Core.Path.{_≡_, refl, sym, ap, subst, _∙_, fun-ext}
 use Prim.Native.Nat.{ℕ, _+_, _≤_}
 use native.Mathlib.Omega.{arith}
 use lib.Dec.{eqb}
-use borrow.Author.Tests.{eq-eqb}
+use borrow.Author.Tests.{eqb-true, eq-eqb, ne-eqb}
 use Rattle.rules.specs.Maps.{all}
 use Rattle.rules.specs.State.{Place, State, taken, from}
 use Rattle.rules.specs.Message.{Message}
@@ -15,7 +15,7 @@ use Rattle.rules.proofs.MapsLaws.{Eq?, same, other, eq?, and-left, and-
 use Rattle.rules.proofs.InsertLaws.{inserted}
 use Rattle.rules.proofs.StepsLaws.{Due, Ready, preackTo-all, confirm-all}
 
--- ---- a test of each of a list, by its members
+-- ---- members of a list
 
 module _ {A : Type 0} (t : A → Bool) where
   pub all-mem : {x : A} {l : List A} → all t l ≡ true → List·Memᴰ x l → t x ≡ true
@@ -25,6 +25,16 @@ module _ {A : Type 0} (t : A → Bool) where
   pub mem-all : (l : List A) → ((x : A) → List·Memᴰ x l → t x ≡ true) → all t l ≡ true
   mem-all [] h = refl
   mem-all (x ∷ l) h = and-intro (t x) (all t l) (h x (List·Memᴰ·head refl)) (mem-all l (λ y m. h y (List·Memᴰ·tail m)))
+
+-- the oldest of a sender stands in the list
+pub from-mem : (j : ℕ) (l : List Place) (p : Place) (ps : List Place) → from j l ≡ p ∷ ps → List·Memᴰ p l
+unfolding from
+from-mem j [] p ps e = absurd (nil≢cons e)
+from-mem j (q ∷ l) p ps e = go (eqb (q .src) j) e (λ x. from-mem j l p ps x)
+  where
+    go : (t : Bool) → cond t (q ∷ from j l) (from j l) ≡ p ∷ ps → (from j l ≡ p ∷ ps → List·Memᴰ p l) → List·Memᴰ p (q ∷ l)
+    go true e ih = List·Memᴰ·head (sym (head-eq-of-cons-eq e))
+    go false e ih = List·Memᴰ·tail (ih e)
 
 abbrev pub bit : Bool → ℕ
 bit true = 1
@@ -94,23 +104,17 @@ module _ (f : Place → ℕ) where
   unfolding withoutTaken
   tally-withoutTaken s p ps e = omega (arith, tally-taken s, tally-taken (withoutTaken s), ap tally e, ap (λ l. tally (tail l)) e)
 
--- the places that fail a test, counted
-module _ (t : Place → Bool) where
-  pub all-tally : (l : List Place) → all t l ≡ true → tally (λ p. bit (not (t p))) l ≡ 0
-  all-tally [] h = refl
-  all-tally (p ∷ l) h = go (t p) h (λ x. all-tally l x)
-    where
-      go : (b : Bool) → b && all t l ≡ true → (all t l ≡ true → tally (λ p. bit (not (t p))) l ≡ 0) → bit (not b) + tally (λ p. bit (not (t p))) l ≡ 0
-      go true h ih = omega (arith, ih h)
-      go false h ih = absurd (false≢true h)
+-- a test holds of each where none that fails it is counted
+pub all-tally : (t : Place → Bool) (l : List Place) → all t l ≡ eqb (tally (λ p. bit (not (t p))) l) 0
+all-tally t [] = refl
+all-tally t (p ∷ l) = go (t p) (all-tally t l)
+  where
+    rest : ℕ
+    rest = tally (λ p. bit (not (t p))) l
 
-  pub tally-all : (l : List Place) → tally (λ p. bit (not (t p))) l ≡ 0 → all t l ≡ true
-  tally-all [] h = refl
-  tally-all (p ∷ l) h = go (t p) h (λ x. tally-all l x)
-    where
-      go : (b : Bool) → bit (not b) + tally (λ p. bit (not (t p))) l ≡ 0 → (tally (λ p. bit (not (t p))) l ≡ 0 → all t l ≡ true) → b && all t l ≡ true
-      go true h ih = ih (omega arith)
-      go false h ih = absurd (omega arith)
+    go : (b : Bool) → all t l ≡ eqb rest 0 → b && all t l ≡ eqb (bit (not b) + rest) 0
+    go true ih = ih ∙ ap (λ (x : ℕ). eqb x 0) (let e : rest ≡ 0 + rest = omega arith in e)
+    go false ih = sym (ne-eqb (1 + rest) 0 (λ e. omega arith))
 
 -- how often the place (j, k) stands in the list
 abbrev pub stands : ℕ → ℕ → Place → Bool
@@ -121,20 +125,18 @@ count j k l = tally (λ q. bit (stands j k q)) l
 
 -- ---- no place twice
 
--- the places other than p
-module _ (p : Place) where
-  apart-count : (l : List Place) → all (λ q. not (samePlace p q)) l ≡ true → count (p .src) (p .slot) l ≡ 0
-  apart-count l h = ap (λ (f : Place → ℕ). tally f l) (fun-ext (λ q. ap bit (sym (Bool·not-not (samePlace p q))))) ∙ all-tally (λ q. not (samePlace p q)) l h
-
-  count-apart : (l : List Place) → count (p .src) (p .slot) l ≡ 0 → all (λ q. not (samePlace p q)) l ≡ true
-  count-apart l h = tally-all (λ q. not (samePlace p q)) l (ap (λ (f : Place → ℕ). tally f l) (fun-ext (λ q. ap bit (Bool·not-not (samePlace p q)))) ∙ h)
+-- all of the list are other places than p
+apart-count : (p : Place) (l : List Place) → all (λ q. not (samePlace p q)) l ≡ eqb (count (p .src) (p .slot) l) 0
+apart-count p l =
+    all-tally (λ q. not (samePlace p q)) l
+    ∙ ap (λ (f : Place → ℕ). eqb (tally f l) 0) (fun-ext (λ q. ap bit (Bool·not-not (samePlace p q))))
 
 pub once-count : (l : List Place) → once l ≡ true → (j k : ℕ) → count j k l ≤ 1
 once-count [] h j k = omega arith
 once-count (p ∷ l) h j k = go (eq? j (p .src)) (eq? k (p .slot)) (once-count l (and-right (all (λ q. not (samePlace p q)) l) (once l) h) j k)
   where
     none : count (p .src) (p .slot) l ≡ 0
-    none = apart-count p l (and-left (all (λ q. not (samePlace p q)) l) (once l) h)
+    none = eqb-true (count (p .src) (p .slot) l) 0 (sym (apart-count p l) ∙ and-left (all (λ q. not (samePlace p q)) l) (once l) h)
 
     go : {a b : Bool} → Eq? j (p .src) a → Eq? k (p .slot) b → count j k l ≤ 1 → bit (a && b) + count j k l ≤ 1
     go (same x) (same y) ih = rw (x, y) (omega (arith, none))
@@ -148,4 +150,6 @@ pub count-once : (l : List Place) → ((j k : ℕ) → count j k l ≤ 1) → on
 count-once [] h = refl
 count-once (p ∷ l) h =
     let self : bit (stands (p .src) (p .slot) p) ≡ 1 = ap bit (stands-self p) in
-    and-intro (all (λ q. not (samePlace p q)) l) (once l) (count-apart p l (omega (arith, h (p .src) (p .slot)))) (count-once l (λ j k. omega (arith, h j k)))
+    let none : count (p .src) (p .slot) l ≡ 0 = omega (arith, h (p .src) (p .slot)) in
+    and-intro (all (λ q. not (samePlace p q)) l) (once l) (apart-count p l ∙ eq-eqb (count (p .src) (p .slot) l) 0 none)
+    (count-once l (λ j k. omega (arith, h j k)))

@@ -14,9 +14,9 @@ use Rattle.rules.specs.State.{State, minAL}
 use Rattle.rules.specs.Steps.{missingFrom, missingTo, asking, isKept, resentFrom, resentTo}
 use Rattle.rules.specs.Sound.{sound}
 use Rattle.rules.specs.Calls.{written, requestChecks, arriveRequest, makeChecks, makeRequest}
-use Rattle.rules.proofs.MapsLaws.{and-left, and-right, and-intro, between-low, between-high, is-between, at-listed}
+use Rattle.rules.proofs.MapsLaws.{and-both, and-intro, between-low, between-high, is-between, at-listed}
 use Rattle.rules.proofs.CallsLaws.{Passed, request-cases, make-cases}
-use Rattle.rules.proofs.ChecksLaws.{or-left, or-right, refused-not}
+use Rattle.rules.proofs.ChecksLaws.{or-left, or-right, refused-above}
 use Rattle.rules.proofs.AcceptedLaws.{Comes, passed-comes}
 use Rattle.rules.proofs.SoundLaws.{Sound, sound-facts}
 
@@ -25,7 +25,8 @@ use Rattle.rules.proofs.SoundLaws.{Sound, sound-facts}
 pub isKept-facts : (s : State) (x : ℕ) → isKept s x ≡ true → (minAL s (s .me) ≤ x) × (x < s .seq)
 unfolding isKept
 isKept-facts s x h =
-    (leb-true (minAL s (s .me)) x (and-left (leb (minAL s (s .me)) x) (ltb x (s .seq)) h), ltb-true x (s .seq) (and-right (leb (minAL s (s .me)) x) (ltb x (s .seq)) h))
+    let both = and-both (leb (minAL s (s .me)) x) (ltb x (s .seq)) h in
+    (leb-true (minAL s (s .me)) x (both .0), ltb-true x (s .seq) (both .1))
 
 pub facts-isKept : (s : State) (x : ℕ) → minAL s (s .me) ≤ x → x < s .seq → isKept s x ≡ true
 unfolding isKept
@@ -75,16 +76,21 @@ passed-asks s k out h =
 pub asked-facts : (s : State) (k : ℕ) (out : List ℕ) → makeRequest s k out .answer ≡ 0 → Asks s k out (asking s k) (makeRequest s k out .output)
 unfolding makeChecks
 asked-facts s k out =
-    make-cases s (λ r. r .answer ≡ 0 → Asks s k out (asking s k) (r .output)) k out (λ a r e. absurd (omega (arith, refused-not r refl))) (λ h e. passed-asks s k out h)
+    make-cases s (λ r. r .answer ≡ 0 → Asks s k out (asking s k) (r .output)) k out (λ a r e. absurd (omega (arith, refused-above 0 r refl)))
+    (λ h e. passed-asks s k out h)
 
 -- where a number of k is missing, REQ_k itself included, it is asked for
-pub asks-missing : (s : State) (k : ℕ) (out : List ℕ) → sound s ≡ true → 1 ≤ k → k ≤ s .n → k ≢ s .me → s .req k < s .heard k → 33 + 4 * s .n ≤ length out
-    → makeRequest s k out .answer ≡ 0
+pub asks-missing : (s : State) (k : ℕ) (out : List ℕ) → sound s ≡ true → 1 ≤ k → k ≤ s .n → k ≢ s .me → s .req k < s .heard k
+    → 33 + 4 * s .n ≤ length out → makeRequest s k out .answer ≡ 0
 unfolding makeRequest makeChecks
 asks-missing s k out h low high other missing long =
-    rw
-    (h, is-between 1 (s .n) k low high, ne-eqb k (s .me) other, lt-leb (s .heard k) (s .req k) missing,
-    le-ltb (length out) (33 + 4 * s .n) long)
+    rw (
+      h,
+      is-between 1 (s .n) k low high,
+      ne-eqb k (s .me) other,
+      lt-leb (s .heard k) (s .req k) missing,
+      le-ltb (length out) (33 + 4 * s .n) long,
+    )
 
 -- ---- answering one
 
@@ -110,11 +116,12 @@ passed-answers s r h =
 pub answered-facts : (s : State) (r : Request) → arriveRequest s r .answer ≡ 0 → Answers s r (arriveRequest s r .numbers)
 unfolding requestChecks
 answered-facts s r =
-    request-cases s (λ o. o .answer ≡ 0 → Answers s r (o .numbers)) r (λ a x e. absurd (omega (arith, refused-not x refl))) (λ h e. passed-answers s r h)
+    request-cases s (λ o. o .answer ≡ 0 → Answers s r (o .numbers)) r (λ a x e. absurd (omega (arith, refused-above 0 x refl))) (λ h e. passed-answers s r h)
 
 -- the numbers of the range are those kept that were asked for, and no others
 pub range-kept : (s : State) (r : Request) → arriveRequest s r .answer ≡ 0 → (x : ℕ)
-    → ((at (arriveRequest s r .numbers) 1 ≤ x) × (x ≤ at (arriveRequest s r .numbers) 2)) ↔ ((isKept s x ≡ true) × (at (r .ack) (s .me) ≤ x) × (x < r .lseq))
+    → ((at (arriveRequest s r .numbers) 1 ≤ x) × (x ≤ at (arriveRequest s r .numbers) 2))
+    ↔ ((isKept s x ≡ true) × (at (r .ack) (s .me) ≤ x) × (x < r .lseq))
 range-kept s r e x =
     let f = answered-facts s r e in
     let first : at (arriveRequest s r .numbers) 1 ≡ max (at (r .ack) (s .me)) (minAL s (s .me)) = ap (λ (l : List ℕ). at l 1) (f .range) in

@@ -14,7 +14,7 @@ use Rattle.rules.specs.Sound.{sound}
 use Rattle.rules.specs.Calls.{full, sendChecks, send}
 use Rattle.rules.proofs.MapsLaws.{least-le, length-listed, at-listed}
 use Rattle.rules.proofs.CallsLaws.{Passed, send-cases}
-use Rattle.rules.proofs.ChecksLaws.{refused-not}
+use Rattle.rules.proofs.ChecksLaws.{refused-above}
 use Rattle.rules.proofs.SoundLaws.{Sound, sound-facts}
 use Rattle.rules.proofs.SlotsLaws.{free-taken}
 
@@ -47,7 +47,8 @@ passed-sends s d out h =
 
 pub sent-facts : (s : State) (d out : List ℕ) → send s d out .answer ≡ 0 → Sends s d out
 unfolding sendChecks
-sent-facts s d out = send-cases s (λ r. r .answer ≡ 0 → Sends s d out) d out (λ a r e. absurd (omega (arith, refused-not r refl))) (λ h e. passed-sends s d out h)
+sent-facts s d out =
+    send-cases s (λ r. r .answer ≡ 0 → Sends s d out) d out (λ a r e. absurd (omega (arith, refused-above 0 r refl))) (λ h e. passed-sends s d out h)
 
 -- ---- what the message says
 

@@ -1,4 +1,5 @@
--- Slots and places by double counting: a sender that is not full has a free slot, and a sound unit has at most 4W places for each sender and 4Wn in all.
+-- Slots and places by double counting: a sender that is not full has a free slot, and a sound unit has at most 4W places
+-- for each sender and 4Wn in all.
 use mathlib.Core.Bool.{Bool, true, false, cond, _&&_, _||_}
 use mathlib.Core.List.{List, [], _∷_, map, List·Memᴰ}
 use mathlib.Core.Path.{_≡_, refl, sym, ap, subst, _∙_}
@@ -6,7 +7,7 @@ use Prim.Native.Nat.{ℕ, zero, suc, _+_, _*_, _≤_, _<_}
 use native.Mathlib.Omega.{arith}
 use lib.Dec.{eqb, ltb}
 use lib.ListN.{length}
-use borrow.Author.Tests.{leb-false, leb-true, ltb-true, ltb-false, lt-ltb}
+use borrow.Author.Tests.{leb-false, leb-true, ltb-true, ltb-false, lt-ltb, eq-eqb, ne-eqb}
 use Rattle.rules.specs.Maps.{among}
 use Rattle.rules.specs.Message.{Message}
 use Rattle.rules.specs.State.{Place, State, taken, from, places, free}
@@ -15,7 +16,7 @@ use Rattle.rules.specs.Calls.{full}
 use Rattle.rules.proofs.MapsLaws.{Lt?, lt, ge, lt?, Eq?, same, other, eq?}
 use Rattle.rules.proofs.PlacesLaws.{bit, tally, stands, count}
 use Rattle.rules.proofs.SoundLaws.{Sound}
-use Rattle.rules.proofs.SumsLaws.{sum, sum-zero, sum-most, sum-least, sum-hit, sum-once, sum-gap, sum-tally, tally-le}
+use Rattle.rules.proofs.SumsLaws.{sum, sum-same, sum-le, sum-most, sum-hit, sum-once, sum-gap, sum-tally, tally-le}
 
 -- ---- lengths as counts
 
@@ -23,17 +24,22 @@ pub length-tally : (l : List Place) → length l ≡ tally (λ p. 1) l
 length-tally [] = refl
 length-tally (p ∷ l) = omega (arith, length-tally l)
 
+eqb-comm : (a b : ℕ) → eqb a b ≡ eqb b a
+eqb-comm a b = go (eq? b a)
+  where
+    go : {t : Bool} → Eq? b a t → eqb a b ≡ t
+    go (same e) = eq-eqb a b (sym e)
+    go (other d) = ne-eqb a b (λ e. d (sym e))
+
 pub from-tally : (j : ℕ) (l : List Place) → length (from j l) ≡ tally (λ p. bit (eqb j (p .src))) l
 unfolding from
 from-tally j [] = refl
-from-tally j (p ∷ l) = go (eq? j (p .src)) (eq? (p .src) j) (from-tally j l)
+from-tally j (p ∷ l) = rw (eqb-comm j (p .src)) (go (eqb (p .src) j) (from-tally j l))
   where
-    go : {a b : Bool} → Eq? j (p .src) a → Eq? (p .src) j b → length (from j l) ≡ tally (λ p. bit (eqb j (p .src))) l
-        → length (cond b (p ∷ from j l) (from j l)) ≡ bit a + tally (λ p. bit (eqb j (p .src))) l
-    go (same x) (same y) ih = omega arith
-    go (same x) (other y) ih = absurd (y (sym x))
-    go (other x) (same y) ih = absurd (x (sym y))
-    go (other x) (other y) ih = omega arith
+    go : (t : Bool) → length (from j l) ≡ tally (λ p. bit (eqb j (p .src))) l
+        → length (cond t (p ∷ from j l) (from j l)) ≡ bit t + tally (λ p. bit (eqb j (p .src))) l
+    go true ih = omega arith
+    go false ih = omega arith
 
 -- ---- the slots of one sender
 
@@ -43,7 +49,7 @@ module _ (j m : ℕ) where
     where
       go : (t : Bool) → sum 0 m (λ k. bit (t && eqb k (p .slot))) ≤ bit t
       go true = sum-hit 0 m (p .slot)
-      go false = omega (arith, sum-zero 0 m)
+      go false = omega (arith, sum-same 0 m 0)
 
   slots-all : (p : Place) → p .slot < m → bit (eqb j (p .src)) ≤ sum 0 m (λ k. bit (stands j k p))
   slots-all p h = go (eqb j (p .src))
@@ -86,8 +92,8 @@ module _ (l : List ℕ) where
   firstFree-free i zero h = absurd (omega arith)
   firstFree-free i (suc m) h = go (among i l) refl h (λ x. firstFree-free (suc i) m x)
     where
-      go : (t : Bool) → among i l ≡ t → cond t (firstFree l (suc i) m) i < i + suc m → (firstFree l (suc i) m < suc i + m → among (firstFree l (suc i) m) l ≡ false)
-          → among (cond t (firstFree l (suc i) m) i) l ≡ false
+      go : (t : Bool) → among i l ≡ t → cond t (firstFree l (suc i) m) i < i + suc m
+          → (firstFree l (suc i) m < suc i + m → among (firstFree l (suc i) m) l ≡ false) → among (cond t (firstFree l (suc i) m) i) l ≡ false
       go true e h ih = ih (omega arith)
       go false e h ih = e
 
@@ -95,50 +101,53 @@ module _ (l : List ℕ) where
   firstFree-past i zero k a b = absurd (omega arith)
   firstFree-past i (suc m) k a b = go (among i l) refl b (λ x y. firstFree-past (suc i) m k x y) (eq? i k)
     where
-      go : (t : Bool) → among i l ≡ t → k < cond t (firstFree l (suc i) m) i → (suc i ≤ k → k < firstFree l (suc i) m → among k l ≡ true) → {u : Bool} → Eq? i k u → among k l ≡ true
+      go : (t : Bool) → among i l ≡ t → k < cond t (firstFree l (suc i) m) i
+          → (suc i ≤ k → k < firstFree l (suc i) m → among k l ≡ true) → {u : Bool} → Eq? i k u → among k l ≡ true
       go true e b ih (same x) = subst (λ z. among z l ≡ true) x e
       go true e b ih (other x) = ih (omega arith) b
       go false e b ih x = absurd (omega arith)
 
--- a slot is among the sender's where its place stands in the list
-pub among-count : (j k : ℕ) (l : List Place) → among k (map (λ (p : Place). p .slot) (from j l)) ≡ ltb 0 (count j k l)
+-- the slots of sender j in the list
+abbrev slotsOf : ℕ → List Place → List ℕ
+slotsOf j l = map (λ (p : Place). p .slot) (from j l)
+
+-- slot k is among them where its place stands in the list
+among-count : (j k : ℕ) (l : List Place) → among k (slotsOf j l) ≡ ltb 0 (count j k l)
 unfolding from
 among-count j k [] = refl
-among-count j k (p ∷ l) = go (eq? j (p .src)) (eq? (p .src) j) (among-count j k l)
+among-count j k (p ∷ l) = rw (eqb-comm j (p .src)) (go (eqb (p .src) j) (among-count j k l))
   where
-    Rest : Type 0
-    Rest = among k (map (λ (p : Place). p .slot) (from j l)) ≡ ltb 0 (count j k l)
+    rest : ltb 0 (count j k l) ≡ ltb 0 (0 + count j k l)
+    rest = ap (λ (x : ℕ). ltb 0 x) (let e : count j k l ≡ 0 + count j k l = omega arith in e)
 
-    hit : {c : Bool} → Eq? k (p .slot) c → Rest → c || among k (map (λ (p : Place). p .slot) (from j l)) ≡ ltb 0 (bit c + count j k l)
+    hit : {c : Bool} → Eq? k (p .slot) c → among k (slotsOf j l) ≡ ltb 0 (count j k l) → c || among k (slotsOf j l) ≡ ltb 0 (bit c + count j k l)
     hit (same x) ih = sym (lt-ltb 0 (1 + count j k l) (omega arith))
-    hit (other x) ih = ih ∙ ap (λ z. ltb 0 z) (let e : count j k l ≡ 0 + count j k l = omega arith in e)
+    hit (other x) ih = ih ∙ rest
 
-    go : {a b : Bool} → Eq? j (p .src) a → Eq? (p .src) j b → Rest
-        → among k (map (λ (p : Place). p .slot) (cond b (p ∷ from j l) (from j l))) ≡ ltb 0 (bit (a && eqb k (p .slot)) + count j k l)
-    go (same x) (same y) ih = hit (eq? k (p .slot)) ih
-    go (same x) (other y) ih = absurd (y (sym x))
-    go (other x) (same y) ih = absurd (x (sym y))
-    go (other x) (other y) ih = ih ∙ ap (λ z. ltb 0 z) (let e : count j k l ≡ 0 + count j k l = omega arith in e)
+    go : (t : Bool) → among k (slotsOf j l) ≡ ltb 0 (count j k l)
+        → among k (map (λ (p : Place). p .slot) (cond t (p ∷ from j l) (from j l))) ≡ ltb 0 (bit (t && eqb k (p .slot)) + count j k l)
+    go true ih = hit (eq? k (p .slot)) ih
+    go false ih = ih ∙ rest
 
 -- ---- a unit's places
 
 module _ (s : State) (j : ℕ) where
   pub freeSlot-le : freeSlot s j ≤ 4 * s .w
   unfolding freeSlot
-  freeSlot-le = omega (arith, firstFree-le (map (λ (p : Place). p .slot) (from j (taken s))) 0 (4 * s .w))
+  freeSlot-le = omega (arith, firstFree-le (slotsOf j (taken s)) 0 (4 * s .w))
 
   -- where the slot found is one of the 4W, no place stands there
   pub freeSlot-count : freeSlot s j < 4 * s .w → count j (freeSlot s j) (taken s) ≡ 0
   unfolding freeSlot
   freeSlot-count h =
-      let none = firstFree-free (map (λ (p : Place). p .slot) (from j (taken s))) 0 (4 * s .w) (omega arith) in
+      let none = firstFree-free (slotsOf j (taken s)) 0 (4 * s .w) (omega arith) in
       omega (arith, ltb-false 0 (count j (freeSlot s j) (taken s)) (sym (among-count j (freeSlot s j) (taken s)) ∙ none))
 
   -- and each slot before it is taken
   pub freeSlot-past : (k : ℕ) → k < freeSlot s j → 1 ≤ count j k (taken s)
   unfolding freeSlot
   freeSlot-past k h =
-      ltb-true 0 (count j k (taken s)) (sym (among-count j k (taken s)) ∙ firstFree-past (map (λ (p : Place). p .slot) (from j (taken s))) 0 (4 * s .w) k (omega arith) h)
+      ltb-true 0 (count j k (taken s)) (sym (among-count j k (taken s)) ∙ firstFree-past (slotsOf j (taken s)) 0 (4 * s .w) k (omega arith) h)
 
   -- a sender that is not full has a free slot
   pub freeSlot-lt : full s j ≡ false → freeSlot s j < 4 * s .w
@@ -151,7 +160,15 @@ module _ (s : State) (j : ℕ) where
       go : {t : Bool} → Lt? (freeSlot s j) (4 * s .w) t → freeSlot s j < 4 * s .w
       go (lt x) = x
       go (ge x) =
-          absurd (omega (arith, room, counts-most j (4 * s .w) (taken s), sum-least 0 (4 * s .w) (λ k. count j k (taken s)) 1 (λ k a b. freeSlot-past k (omega arith))))
+          absurd (
+          omega (
+            arith,
+            room,
+            counts-most j (4 * s .w) (taken s),
+            sum-same 0 (4 * s .w) 1,
+            sum-le 0 (4 * s .w) (λ k. 1) (λ k. count j k (taken s)) (λ k a b. freeSlot-past k (omega arith)),
+          )
+          )
 
 -- a message goes to a place that is not taken
 pub placed-free : (s : State) (p : Message) → full s (p .src) ≡ false → count (placed s p .src) (placed s p .slot) (taken s) ≡ 0

@@ -15,22 +15,21 @@ abbrev pub sum : ℕ → ℕ → (ℕ → ℕ) → ℕ
 sum a zero f = 0
 sum a (suc m) f = f a + sum (suc a) m f
 
-pub sum-zero : (a m : ℕ) → sum a m (λ k. 0) ≡ 0
-sum-zero a zero = refl
-sum-zero a (suc m) = omega (arith, sum-zero (suc a) m)
-
 pub sum-plus : (a m : ℕ) (f g : ℕ → ℕ) → sum a m (λ k. f k + g k) ≡ sum a m f + sum a m g
 sum-plus a zero f g = refl
 sum-plus a (suc m) f g = omega (arith, sum-plus (suc a) m f g)
 
--- each of them is at most b, or at least b
-pub sum-most : (a m : ℕ) (f : ℕ → ℕ) (b : ℕ) → ((k : ℕ) → a ≤ k → k < a + m → f k ≤ b) → sum a m f ≤ m * b
-sum-most a zero f b h = omega arith
-sum-most a (suc m) f b h = omega (arith, sum-most (suc a) m f b (λ k x y. h k (omega arith) (omega arith)), h a (le-refl a) (omega arith))
+pub sum-same : (a m b : ℕ) → sum a m (λ k. b) ≡ m * b
+sum-same a zero b = omega arith
+sum-same a (suc m) b = omega (arith, sum-same (suc a) m b)
 
-pub sum-least : (a m : ℕ) (f : ℕ → ℕ) (b : ℕ) → ((k : ℕ) → a ≤ k → k < a + m → b ≤ f k) → m * b ≤ sum a m f
-sum-least a zero f b h = omega arith
-sum-least a (suc m) f b h = omega (arith, sum-least (suc a) m f b (λ k x y. h k (omega arith) (omega arith)), h a (le-refl a) (omega arith))
+pub sum-le : (a m : ℕ) (f g : ℕ → ℕ) → ((k : ℕ) → a ≤ k → k < a + m → f k ≤ g k) → sum a m f ≤ sum a m g
+sum-le a zero f g h = omega arith
+sum-le a (suc m) f g h = omega (arith, sum-le (suc a) m f g (λ k x y. h k (omega arith) (omega arith)), h a (le-refl a) (omega arith))
+
+-- each of them is at most b
+pub sum-most : (a m : ℕ) (f : ℕ → ℕ) (b : ℕ) → ((k : ℕ) → a ≤ k → k < a + m → f k ≤ b) → sum a m f ≤ m * b
+sum-most a m f b h = omega (arith, sum-same a m b, sum-le a m f (λ k. b) h)
 
 -- x is one of them at most once, and exactly once where it is in their range
 pub sum-past : (a m x : ℕ) → x < a → sum a m (λ k. bit (eqb k x)) ≡ 0
@@ -74,7 +73,7 @@ sum-gap a m f x low high none h =
 -- ---- by rows or by columns
 
 pub sum-tally : (a m : ℕ) (f : ℕ → Place → ℕ) (l : List Place) → sum a m (λ k. tally (f k) l) ≡ tally (λ p. sum a m (λ k. f k p)) l
-sum-tally a m f [] = sum-zero a m
+sum-tally a m f [] = omega (arith, sum-same a m 0)
 sum-tally a m f (p ∷ l) = omega (arith, sum-plus a m (λ k. f k p) (λ k. tally (f k) l), sum-tally a m f l)
 
 pub tally-le : (f g : Place → ℕ) (l : List Place) → ((p : Place) → List·Memᴰ p l → f p ≤ g p) → tally f l ≤ tally g l

@@ -33,7 +33,7 @@ pub passed-sends : (s : State) (d out : List ℕ) → Passed (sendChecks s d out
 unfolding sendChecks maySend window minAL
 passed-sends s d out h =
     let f : Sound s = sound-facts s (not-false (sound s) (search)) in
-    let shut : s .seq < minAL s (s .me) + window s = ltb-true (s .seq) (minAL s (s .me) + window s) (not-false (maySend s) (search)) in
+    let gap : s .seq < minAL s (s .me) + window s = ltb-true (s .seq) (minAL s (s .me) + window s) (not-false (maySend s) (search)) in
     record {
       sound = f;
       short = ltb-false 48 (length d) (search);

@@ -38,7 +38,7 @@ passed-comes s cid src ack a b c d e =
     record {
       sound = sound-facts s (not-false (sound s) a);
       group = eqb-true cid (s .cid) (not-false (eqb cid (s .cid)) b);
-      count = eqb-true (length ack) (s .n) (not-false (eqb (length ack) (s .n)) (search (or-left, or-right)));
+      count = eqb-true (length ack) (s .n) (not-false (eqb (length ack) (s .n)) (search or-left));
       src-low = between-low 1 (s .n) src unit;
       src-high = between-high 1 (s .n) src unit;
       other = eqb-false src (s .me) d;

@@ -1,0 +1,1 @@
+-- Demand 3 proved, a run that confirms, and what mistakes break.

@@ -1,0 +1,58 @@
+-- What a unit knows of another's expectations: never more than the truth and closed, and, apart from that, just what its last message said.
+use mathlib.Core.Logic.{_≢_}
+use mathlib.Core.Path.{_≡_, refl, sym, ap, subst, _∙_}
+use Prim.Native.Nat.{ℕ, suc, _≤_, _<_}
+use native.Mathlib.Omega.{arith}
+use native.Mathlib.Nat.{le-refl, le-trans}
+use Rattle.rules.specs.Maps.{at, upd, least}
+use Rattle.rules.proofs.MapsLaws.{least-le, least-glb}
+use Rattle.group.specs.Runs.{Index}
+use Rattle.group.proofs.Course.{Course, Sent, ackOf, said, said-suc, said-first}
+use Rattle.group.proofs.Numbers.{Numbers, Spoken, Closed}
+
+-- v is what is known of j's expectations where j's messages below r were accepted
+pub record Column (c : Course) (R : ℕ → ℕ → ℕ) (j r : ℕ) (v : ℕ → ℕ) : Type 0 where
+  pub within : (k : ℕ) → Index (c .n) k → v k ≤ R j k
+  pub closed : (k s x : ℕ) → Index (c .n) k → Index (c .n) x → c .first k ≤ s → s < v k → ackOf (c .msg k s) x ≤ v x
+  pub reaches : (k : ℕ) → Index (c .n) k → said c j r k ≤ v k
+
+-- v is just what the last of them said
+pub record Says (c : Course) (j r : ℕ) (v : ℕ → ℕ) : Type 0 where
+  pub says : (k : ℕ) → Index (c .n) k → v k ≡ said c j r k
+
+module _ (c : Course) (j : ℕ) where
+  pub column-first : (top : ℕ → ℕ) (R : ℕ → ℕ → ℕ) → Numbers c top R → Index (c .n) j → Column c R j (c .first j) (c .first)
+  column-first top R I jn =
+      record {
+        within = λ k kn. I .low j k jn kn;
+        closed = λ k s x kn xn low h. absurd (omega arith);
+        reaches = λ k kn. subst (λ v. v k ≤ c .first k) (sym (said-first c j)) (le-refl _);
+      }
+
+  pub says-first : Says c j (c .first j) (c .first)
+  says-first = record { says = λ k kn. ap (λ v. v k) (sym (said-first c j)) }
+
+  -- the column of a message just accepted
+  pub column-message : (top : ℕ → ℕ) (R : ℕ → ℕ → ℕ) → Numbers c top R → Closed c top R → (s : ℕ) → Sent c top j s → Column c R j (suc s) (ackOf (c .msg j s))
+  column-message top R I C s h =
+      record {
+        within = λ k kn. I .past j s k h kn;
+        closed = λ k t x kn xn low b. C .chain j s k t x h kn xn low b;
+        reaches = λ k kn. subst (λ v. v k ≤ ackOf (c .msg j s) k) (sym (said-suc c j s (h .low))) (le-refl _);
+      }
+
+  pub says-message : (s : ℕ) → c .first j ≤ s → Says c j (suc s) (ackOf (c .msg j s))
+  says-message s h = record { says = λ k kn. ap (λ v. v k) (sym (said-suc c j s h)) }
+
+  pub column-more : (R R′ : ℕ → ℕ → ℕ) → ((k : ℕ) → R j k ≤ R′ j k) → (r : ℕ) (v : ℕ → ℕ) → Column c R j r v → Column c R′ j r v
+  column-more R R′ up r v A =
+      record { within = λ k kn. le-trans (A .within k kn) (up k); closed = A .closed; reaches = A .reaches }
+
+-- ---- the least of a row
+
+module _ (c : Course) (n : ℕ) (size : n ≡ c .n) (f : ℕ → ℕ) where
+  pub row-le : (x : ℕ) → Index (c .n) x → least n f ≤ f x
+  row-le x xn = least-le n f x (xn .0) (omega arith)
+
+  pub row-glb : (v : ℕ) → 1 ≤ c .n → ((x : ℕ) → Index (c .n) x → v ≤ f x) → v ≤ least n f
+  row-glb v some h = least-glb n f v (omega arith) (λ x a b. h x (a, omega arith))

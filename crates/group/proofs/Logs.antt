@@ -1,0 +1,99 @@
+-- The log of a unit holds just what is below its REQ, and each message sent tells just what stood in it then.
+use mathlib.Core.Logic.{_≢_}
+use mathlib.Core.List.{List, [], _∷_, _++_, map, List·Memᴰ as Mem, List·Memᴰ·head, List·Memᴰ·tail}
+use mathlib.Core.Path.{_≡_, refl, sym, ap, subst, _∙_}
+use Prim.Native.Nat.{ℕ, zero, suc, _≤_, _<_}
+use native.Mathlib.Omega.{arith}
+use native.Mathlib.Nat.{le-trans}
+use Rattle.rules.specs.Message.{Message, message, encode}
+use Rattle.group.specs.Runs.{Index, Did, sent, accepted}
+use Rattle.group.specs.Causality.{Ahead, here, there, about, sentIn}
+use Rattle.group.proofs.All.{All, all-map, all-mem, mem-unmap}
+use Rattle.group.proofs.Course.{Course, Sent, ackOf}
+use Rattle.group.proofs.Numbers.{bumped, bumped-up, bumped-same, bumped-all, sent-bumped}
+
+-- m was sent
+pub record Of (c : Course) (top : ℕ → ℕ) (m : Message) : Type 0 where
+  pub sent : Sent c top (m .src) (m .seq)
+  pub is : m ≡ c .msg (m .src) (m .seq)
+
+pub of-bumped : (c : Course) (top : ℕ → ℕ) (i : ℕ) (m : Message) → Of c top m → Of c (bumped top i) m
+of-bumped c top i m o = record { sent = sent-bumped c top i (m .src) (m .seq) (o .sent); is = o .is }
+
+-- i sent m in the frame f when its log was l: m's ACKs are above just what stands in l
+pub record Tells (c : Course) (i : ℕ) (m : Message) (f : List ℕ) (l : List Did) : Type 0 where
+  pub src : m .src ≡ i
+  pub frame : f ≡ encode (message m)
+  pub back : All (λ e. about e .seq < ackOf m (about e .src)) l
+  pub forth : (k s : ℕ) → Index (c .n) k → c .first k ≤ s → s < ackOf m k → Mem (c .msg k s) (map about l)
+
+abbrev pub TellsIfSent : Course → ℕ → Did → List Did → Type 0
+TellsIfSent c i (sent m f) l = Tells c i m f l
+TellsIfSent c i (accepted m) l = Unit {0}
+
+abbrev pub AllTell : Course → ℕ → List Did → Type 0
+AllTell c i [] = Unit {0}
+AllTell c i (e ∷ l) = TellsIfSent c i e l × AllTell c i l
+
+pub record Log (c : Course) (top r : ℕ → ℕ) (i : ℕ) (l : List Did) : Type 0 where
+  pub have : All (λ e. Of c top (about e) × (about e .seq < r (about e .src))) l
+  pub full : (k s : ℕ) → Index (c .n) k → c .first k ≤ s → s < r k → Mem (c .msg k s) (map about l)
+  pub tell : AllTell c i l
+
+pub log-bumped : (c : Course) (top r : ℕ → ℕ) (i k : ℕ) (l : List Did) → Log c top r i l → Log c (bumped top k) r i l
+log-bumped c top r i k l G =
+    record {
+      have = all-map (λ e (h : Of c top (about e) × (about e .seq < r (about e .src))). (of-bumped c top k (about e) (h .0), h .1)) l (G .have);
+      full = G .full;
+      tell = G .tell;
+    }
+
+-- one more is accepted, own or heard
+pub log-accepted : (c : Course) (top r : ℕ → ℕ) (i j : ℕ) (e : Did) (l : List Did) → Log c top r i l → Of c top (about e) → about e ≡ c .msg j (r j) → about e .src ≡ j → about e .seq ≡ r j
+    → TellsIfSent c i e l → Log c top (bumped r j) i (e ∷ l)
+log-accepted c top r i j e l G o is src seq t =
+    record {
+      have = ((o, subst (λ k. about e .seq < bumped r j k) (sym src) new),
+          all-map (λ d (h : Of c top (about d) × (about d .seq < r (about d .src))). (h .0, le-trans (h .1) (bumped-up r j (about d .src)))) l (G .have));
+      full = λ k s kn low h.
+          bumped-all r j (λ k s. Index (c .n) k → c .first k ≤ s → Mem (c .msg k s) (map about (e ∷ l)))
+          (λ a b. List·Memᴰ·head (sym is)) (λ k s x a b. List·Memᴰ·tail (G .full k s a b x)) k s h kn low;
+      tell = (t, G .tell);
+    }
+  where
+    new : about e .seq < bumped r j j
+    new = omega (arith, bumped-same r j)
+
+-- what a new message tells
+pub tells-now : (c : Course) (top r : ℕ → ℕ) (i : ℕ) (m : Message) (l : List Did) → Log c top r i l → m .src ≡ i → ((k : ℕ) → Index (c .n) k → ackOf m k ≡ r k)
+    → Tells c i m (encode (message m)) l
+tells-now c top r i m l G src ack =
+    record {
+      src = src;
+      frame = refl;
+      back = all-map (λ e (h : Of c top (about e) × (about e .seq < r (about e .src))). omega (arith, ack (about e .src) (h .0 .sent .index))) l (G .have);
+      forth = λ k s kn low h. G .full k s kn low (omega (arith, ack k kn));
+    }
+
+-- ---- reading it
+
+tells-at : (c : Course) (i : ℕ) (m : Message) (f : List ℕ) (e : Did) (l : List Did) → sent m f ≡ e → AllTell c i (e ∷ l) → Tells c i m f l
+tells-at c i m f e l q t = subst (λ (x : Did). TellsIfSent c i x l) (sym q) (t .0)
+
+pub tells-back : (c : Course) (i : ℕ) (m : Message) (f : List ℕ) (e : Did) (l : List Did) → AllTell c i l → Ahead (sent m f) e l → about e .seq < ackOf m (about e .src)
+tells-back c i m f e (x ∷ l) t (here q h) = all-mem (λ d. about d .seq < ackOf m (about d .src)) e l h (tells-at c i m f x l q t .back)
+tells-back c i m f e (x ∷ l) t (there a) = tells-back c i m f e l (t .1) a
+
+pub tells-forth : (c : Course) (i : ℕ) (m : Message) (f : List ℕ) (l : List Did) → AllTell c i l → Mem (sent m f) l
+    → (k s : ℕ) → Index (c .n) k → c .first k ≤ s → s < ackOf m k → (e : Did) × (about e ≡ c .msg k s) × Ahead (sent m f) e l
+tells-forth c i m f (x ∷ l) t (List·Memᴰ·head q) k s kn low h =
+    let r = mem-unmap about (c .msg k s) l (tells-at c i m f x l q t .forth k s kn low h) in
+    (r .0, r .1, here q (r .2))
+tells-forth c i m f (x ∷ l) t (List·Memᴰ·tail a) k s kn low h =
+    let r = tells-forth c i m f l (t .1) a k s kn low h in
+    (r .0, r .1, there (r .2))
+
+-- the sender and the frame of a message that a log says was sent
+pub tells-sent : (c : Course) (i : ℕ) (m : Message) (f : List ℕ) (l : List Did) → AllTell c i l → Mem (sent m f) l → (m .src ≡ i) × (f ≡ encode (message m))
+tells-sent c i m f (x ∷ l) t (List·Memᴰ·head q) = let r = tells-at c i m f x l q t in (r .src, r .frame)
+tells-sent c i m f (x ∷ l) t (List·Memᴰ·tail a) = tells-sent c i m f l (t .1) a

@@ -10,3 +10,4 @@ pub mod Settle
 pub mod Tidy
 pub mod Logs
 pub mod Members
+pub mod Good

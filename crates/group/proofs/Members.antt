@@ -89,9 +89,9 @@ unfolding Steps.sent numbered
 sent-is u m = refl
 
 pub member-numbered : (c : Course) (top : ℕ → ℕ) (R : ℕ → ℕ → ℕ) (i : ℕ) (u : State) (log : List Did) (took : List Place) → Member c top R i u log took
-    → Member c (bumped top i) R i (numbered u (c .msg i (top i))) log took
+    → (m : Message) → m ≡ c .msg i (top i) → Member c (bumped top i) R i (numbered u m) log took
 unfolding numbered minAL
-member-numbered c top R i u log took M =
+member-numbered c top R i u log took M m is =
     record {
       me = M .me;
       w = M .w;
@@ -100,8 +100,8 @@ member-numbered c top R i u log took M =
       tidy = tidy-written c top i R (took ++ u .confirmed) (part u) (M .tidy);
       told = M .told;
       kept =
-          upd-all (u .kept) (u .seq) (encode (message (c .msg i (top i)))) (λ s v. minAL u i ≤ s → s < bumped top i i → v ≡ encode (message (c .msg i s)))
-          (λ low high. ap (λ s. encode (message (c .msg i s))) (sym (M .seq)))
+          upd-all (u .kept) (u .seq) (encode (message m)) (λ s v. minAL u i ≤ s → s < bumped top i i → v ≡ encode (message (c .msg i s)))
+          (λ low high. ap (λ (x : Message). encode (message x)) (is ∙ ap (c .msg i) (sym (M .seq))))
           (λ s d low high. M .kept s low (omega (arith, bumped-same top i, M .seq)));
       logs = log-bumped c top (u .req) i i log (M .logs);
     }
@@ -122,6 +122,9 @@ module _ (c : Course) (top : ℕ → ℕ) (R : ℕ → ℕ → ℕ) (I : Numbers
   rest : core (Steps.accepted u p) ≡ core (stored u p)
   rest = accepted-core c top R I H C i j inn A took u same (M .tidy) up
 
+  pub member-req : Steps.accepted u p .req ≡ grown R i j i
+  member-req = accepted-req c top R I H C i j inn A took u same (M .tidy) up
+
   stored-kept : (s : ℕ) → minAL (stored u p) i ≤ s → s < top i → stored u p .kept s ≡ encode (message (c .msg i s))
   unfolding stored minAL
   stored-kept s low high =
@@ -140,7 +143,7 @@ module _ (c : Course) (top : ℕ → ℕ) (R : ℕ → ℕ → ℕ) (I : Numbers
         told = told-accepted c top R I H C i j inn A took u same (M .tidy) up (M .told);
         kept = subst (λ (k : Core). (s : ℕ) → least (k .n) (k .al i) ≤ s → s < top i → k .kept s ≡ encode (message (c .msg i s))) (sym rest) stored-kept;
         logs =
-            subst (λ (r : ℕ → ℕ). Log c top r i (e ∷ log)) (sym (accepted-req c top R I H C i j inn A took u same (M .tidy) up ∙ upd-same R i (bumped (R i) j)))
+            subst (λ (r : ℕ → ℕ). Log c top r i (e ∷ log)) (sym (member-req ∙ upd-same R i (bumped (R i) j)))
             (log-accepted c top (R i) i j e log (subst (λ (r : ℕ → ℕ). Log c top r i log) same (M .logs)) of is src seq t);
       }
     where

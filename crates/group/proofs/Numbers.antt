@@ -7,7 +7,7 @@ use native.Mathlib.Omega.{arith}
 use native.Mathlib.Nat.{le-refl, le-trans}
 use Rattle.rules.specs.Maps.{at, upd}
 use Rattle.rules.specs.Message.{Message}
-use Rattle.rules.proofs.MapsLaws.{Lt?, lt, ge, lt?, Eq?, same, other, eq?, upd-all, upd-same}
+use Rattle.rules.proofs.MapsLaws.{Lt?, lt, ge, lt?, Eq?, same, other, eq?, upd-all, upd-same, upd-other}
 use Rattle.group.specs.Runs.{Index}
 use Rattle.group.proofs.Course.{Course, Sent, ackOf, said, said-cases, said-suc}
 
@@ -96,7 +96,7 @@ pub record Fresh (c : Course) (top : ℕ → ℕ) (R : ℕ → ℕ → ℕ) (i :
 
 module _ (c : Course) (top : ℕ → ℕ) (R : ℕ → ℕ → ℕ) (i : ℕ) (inn : Index (c .n) i) (N : Fresh c top R i) (I : Numbers c top R) where
   -- what holds of each message sent before, and of the new one, holds of each sent now
-  written-all : (P : ℕ → ℕ → Type 0) → P i (top i) → ((j s : ℕ) → Sent c top j s → P j s) → (j s : ℕ) → Sent c (bumped top i) j s → P j s
+  pub written-all : (P : ℕ → ℕ → Type 0) → P i (top i) → ((j s : ℕ) → Sent c top j s → P j s) → (j s : ℕ) → Sent c (bumped top i) j s → P j s
   written-all P new old j s h =
       bumped-all top i (λ j s. Index (c .n) j → c .first j ≤ s → P j s) (λ x y. new)
       (λ j s b x y. old j s (record { index = x; low = y; high = b })) j s (h .high) (h .index) (h .low)
@@ -142,6 +142,10 @@ module _ (R : ℕ → ℕ → ℕ) (i j : ℕ) where
   pub grown-up : (l k : ℕ) → R l k ≤ grown R i j l k
   unfolding grown
   grown-up l k = upd-all R i (bumped (R i) j) (λ l f. R l k ≤ f k) (bumped-up (R i) j k) (λ l d. le-refl _) l
+
+  pub grown-other : (l : ℕ) → l ≢ i → grown R i j l ≡ R l
+  unfolding grown
+  grown-other l d = upd-other R i (bumped (R i) j) l d
 
   pub grown-all : (P : ℕ → ℕ → ℕ → Type 0) → P i j (R i j) → ((l k x : ℕ) → x < R l k → P l k x) → (l k x : ℕ) → x < grown R i j l k → P l k x
   unfolding grown

@@ -21,16 +21,21 @@ pub record Says (c : Course) (j r : ℕ) (v : ℕ → ℕ) : Type 0 where
   pub says : (k : ℕ) → Index (c .n) k → v k ≡ said c j r k
 
 module _ (c : Course) (j : ℕ) where
-  pub column-first : (top : ℕ → ℕ) (R : ℕ → ℕ → ℕ) → Numbers c top R → Index (c .n) j → Column c R j (c .first j) (c .first)
-  column-first top R I jn =
-      record {
-        within = λ k kn. I .low j k jn kn;
-        closed = λ k s x kn xn low h. absurd (omega arith);
-        reaches = λ k kn. subst (λ v. v k ≤ c .first k) (sym (said-first c j)) (le-refl _);
-      }
+  -- at opening the first numbers are expected
+  module _ (r : ℕ) (v : ℕ → ℕ) (start : r ≡ c .first j) (firsts : (k : ℕ) → Index (c .n) k → v k ≡ c .first k) where
+    first-is : (k : ℕ) → Index (c .n) k → v k ≡ said c j r k
+    first-is k kn = firsts k kn ∙ ap (λ (f : ℕ → ℕ). f k) (sym (said-first c j)) ∙ ap (λ x. said c j x k) (sym start)
 
-  pub says-first : Says c j (c .first j) (c .first)
-  says-first = record { says = λ k kn. ap (λ v. v k) (sym (said-first c j)) }
+    pub column-first : (top : ℕ → ℕ) (R : ℕ → ℕ → ℕ) → Numbers c top R → Index (c .n) j → Column c R j r v
+    column-first top R I jn =
+        record {
+          within = λ k kn. omega (arith, firsts k kn, I .low j k jn kn);
+          closed = λ k s x kn xn low h. absurd (omega (arith, firsts k kn));
+          reaches = λ k kn. omega (arith, first-is k kn);
+        }
+
+    pub says-first : Says c j r v
+    says-first = record { says = first-is }
 
   -- the column of a message just accepted
   pub column-message : (top : ℕ → ℕ) (R : ℕ → ℕ → ℕ) → Numbers c top R → Closed c top R → (s : ℕ) → Sent c top j s → Column c R j (suc s) (ackOf (c .msg j s))

@@ -11,3 +11,4 @@ pub mod Tidy
 pub mod Logs
 pub mod Members
 pub mod Good
+pub mod Opening

@@ -1,0 +1,161 @@
+-- A group opened alike is in a good state.
+use mathlib.Core.Bool.{Bool, true, false, not, _&&_}
+use mathlib.Core.List.{List, [], _∷_, _++_}
+use mathlib.Core.Path.{_≡_, refl, sym, ap, subst, _∙_}
+use Prim.Native.Nat.{ℕ, zero, suc, _+_, _≤_, _<_}
+use native.Mathlib.Omega.{arith}
+use lib.Dec.{leb}
+use borrow.Author.Tests.{leb-true, not-false}
+use Rattle.rules.specs.Maps.{between, every, units, least}
+use Rattle.rules.specs.Message.{Message, last}
+use Rattle.rules.specs.State.{Place, State, minAL, from, opened, closed}
+use Rattle.rules.specs.Sound.{rangesFit}
+use Rattle.rules.specs.Calls.{Check, Opened, openChecks, opening}
+use Rattle.rules.proofs.MapsLaws.{and-both, between-low, between-high, units-in, every-at}
+use Rattle.rules.proofs.CallsLaws.{Refused, now, later, Passed, decide-cases}
+use Rattle.group.specs.Runs.{Index, Did, Group, fresh}
+use Rattle.group.proofs.Course.{Course, said-first}
+use Rattle.group.proofs.Numbers.{Numbers, Spoken, Closed}
+use Rattle.group.proofs.Columns.{column-first, says-first, row-le, row-glb}
+use Rattle.group.proofs.Lists.{part, Lists}
+use Rattle.group.proofs.Members.{Member}
+use Rattle.group.proofs.Good.{topOf, reqs, Limits, Good}
+
+-- what answer 0 to an opening says
+pub record Opens (i n w cid : ℕ) (first : ℕ → ℕ) (u : State) : Type 0 where
+  pub unit : u ≡ opened i n w cid first
+  pub some : 2 ≤ n
+  pub few : n ≤ 8
+  pub narrow : w ≤ 4
+  pub short : cid ≤ last
+  pub firsts : (k : ℕ) → Index n k → (1 ≤ first k) × (first k ≤ last)
+
+pub open-says : (i n w cid : ℕ) (first : ℕ → ℕ) → opening i n w cid first .answer ≡ 0 → Opens i n w cid first (opening i n w cid first .unit)
+unfolding opening openChecks rangesFit
+open-says i n w cid first =
+    decide-cases (λ (o : Opened). o .answer ≡ 0 → Opens i n w cid first (o .unit)) _ _ (openChecks i n w cid first) refused (λ p z. passed p)
+  where
+    refused : (a : ℕ) → Refused a (openChecks i n w cid first) → a ≡ 0 → Opens i n w cid first closed
+    refused a (now h e) z = absurd (omega arith)
+
+    passed : Passed (openChecks i n w cid first) → Opens i n w cid first (opened i n w cid first)
+    passed p =
+        let all = and-both _ _ (not-false _ (p .0)) in
+        let front = and-both _ _ (all .0) in
+        let ranges = and-both _ _ (front .0) in
+        let sizes = and-both _ _ (ranges .0) in
+        record {
+          unit = refl;
+          some = between-low 2 8 n (sizes .0);
+          few = between-high 2 8 n (sizes .0);
+          narrow = between-high 2 4 w (sizes .1);
+          short = leb-true cid last (front .1);
+          firsts = λ k kn.
+              let h = every-at 1 n (λ k. between 1 last (first k)) (all .1) k (kn .0) (omega arith) in
+              (between-low 1 last (first k) h, between-high 1 last (first k) h);
+        }
+
+module _ (c : Course) (opens : (i : ℕ) → Index (c .n) i → opening i (c .n) (c .w) (c .cid) (c .first) .answer ≡ 0) where
+  abbrev start : Group
+  start = fresh (c .n) (c .w) (c .cid) (c .first)
+
+  said-open : (i : ℕ) (inn : Index (c .n) i) → Opens i (c .n) (c .w) (c .cid) (c .first) (start .unit i)
+  unfolding fresh
+  said-open i inn = open-says i (c .n) (c .w) (c .cid) (c .first) (opens i inn)
+
+  req-first : (i k : ℕ) → Index (c .n) i → Index (c .n) k → reqs start i k ≡ c .first k
+  unfolding opened
+  req-first i k inn kn = ap (λ (u : State). u .req k) (said-open i inn .unit) ∙ units-in (c .n) (c .first) k (kn .0) (kn .1)
+
+  start-numbers : Numbers c (topOf c start) (reqs start)
+  unfolding fresh
+  start-numbers =
+      record {
+        low = λ i k inn kn. omega (arith, req-first i k inn kn);
+        high = λ i k inn kn. omega (arith, req-first i k inn kn);
+        past = λ j s k h kn. absurd (omega (arith, h .low, h .high));
+      }
+
+  module _ (i : ℕ) (inn : Index (c .n) i) where
+    abbrev unit : State
+    unit = opened i (c .n) (c .w) (c .cid) (c .first)
+
+    -- every row holds the first number of its unit
+    rows : (k j : ℕ) → Index (c .n) k → Index (c .n) j → (unit .al k j ≡ c .first k) × (unit .pal k j ≡ c .first k)
+    unfolding opened
+    rows k j kn jn = let e = units-in (c .n) _ j (jn .0) (jn .1) ∙ units-in (c .n) (c .first) k (kn .0) (kn .1) in (e, e)
+
+    next : (k : ℕ) → Index (c .n) k → unit .req k ≡ c .first k
+    unfolding opened
+    next k kn = units-in (c .n) (c .first) k (kn .0) (kn .1)
+
+    lowest : (k : ℕ) → Index (c .n) k → least (c .n) (unit .al k) ≡ c .first k
+    lowest k kn =
+        omega (arith, row-le c (c .n) refl (unit .al k) k kn, rows k k kn kn .0,
+        row-glb c (c .n) refl (unit .al k) (c .first k) (omega (arith, inn .0, inn .1)) (λ j jn. omega (arith, rows k j kn jn .0)))
+
+    start-lists : Lists c (topOf c start) (c .first) [] (part unit)
+    unfolding opened from
+    start-lists =
+        record {
+          lane = λ k kn. refl;
+          rest = λ k kn. sym (next k kn);
+          early = λ k kn. omega (arith, lowest k kn);
+          holds = tt;
+          waits = tt;
+          pal = λ k j kn jn. rows k j kn jn .1 ∙ ap (λ (f : ℕ → ℕ). f k) (sym (said-first c j));
+          ordered = tt;
+          over = tt;
+          firm = tt;
+        }
+
+    start-member : Member c (topOf c start) (reqs start) i unit [] []
+    unfolding opened fresh minAL
+    start-member =
+        record {
+          me = refl;
+          w = refl;
+          cid = refl;
+          seq = omega arith;
+          tidy = record {
+            size = refl;
+            columns = λ x xn. column-first c x (unit .req x) (λ k. unit .al k x) (next x xn) (λ k kn. rows k x kn xn .0) (topOf c start) (reqs start) start-numbers xn;
+            settled = record { pre = c .first; lists = start-lists; calm = λ k kn. omega (arith, lowest k kn) };
+          };
+          told = record { told = λ x xn. says-first c x (unit .req x) (λ k. unit .al k x) (next x xn) (λ k kn. rows k x kn xn .0) };
+          kept = λ s low high. absurd (omega (arith, lowest i inn));
+          logs = record { have = tt; full = λ k s kn low high. absurd (omega (arith, next k kn)); tell = tt };
+        }
+
+  -- where there is a unit at all
+  pub good-start : Index (c .n) 1 → Good c start
+  unfolding fresh
+  good-start one =
+      record {
+        fair = record {
+          limits = record {
+            some = said-open 1 one .some;
+            few = said-open 1 one .few;
+            narrow = said-open 1 one .narrow;
+            cid = said-open 1 one .short;
+            start = λ k kn. said-open 1 one .firsts k kn .0;
+            end = λ k kn. omega (arith, said-open 1 one .firsts k kn .1);
+          };
+          numbers = start-numbers;
+          spoken = record {
+            src = λ j s h. absurd (omega arith);
+            seq = λ j s h. absurd (omega arith);
+            own = λ j s h. absurd (omega arith);
+            floor = λ j s k h kn. absurd (omega arith);
+            mono = λ j s t k h g st kn. absurd (omega arith);
+          };
+          closed = record {
+            close = λ i j s k inn jn kn low h. absurd (omega (arith, req-first i j inn jn));
+            chain = λ l t j s k h jn kn low b. absurd (omega arith);
+          };
+          window = record { near = λ j s k h kn. absurd (omega arith) };
+        };
+        own = λ i inn. omega (arith, req-first i i inn inn);
+        members = λ i inn. subst (λ (u : State). Member c (topOf c start) (reqs start) i u [] []) (sym (said-open i inn .unit)) (start-member i inn);
+        air = tt;
+      }

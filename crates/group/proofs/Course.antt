@@ -1,5 +1,6 @@
 -- The messages of a whole run by sender and number, and what a sender's messages below a number say.
 use mathlib.Core.Bool.{Bool, true, false, cond}
+use mathlib.Core.List.{[]}
 use mathlib.Core.Path.{_≡_, refl, sym, subst}
 use Prim.Native.Nat.{ℕ, zero, suc, _-_, _≤_, _<_}
 use native.Mathlib.Omega.{arith}
@@ -22,6 +23,9 @@ pub record Sent (c : Course) (top : ℕ → ℕ) (j s : ℕ) : Type 0 where
   pub index : Index (c .n) j
   pub low : c .first j ≤ s
   pub high : s < top j
+
+abbrev pub nothing : Message
+nothing = record { cid = 0; src = 0; seq = 0; ack = []; buf = 0; text = [] }
 
 abbrev pub ackOf : Message → ℕ → ℕ
 ackOf m k = at (m .ack) k

@@ -66,7 +66,7 @@ module _ (g : Group) (i : ℕ) (s : State) (frames : List (List ℕ)) (deeds : L
   abbrev next : Group
   next = updated g i s frames deeds places
 
-  updated-all : (P : ℕ → State → List Did → List Place → Type 0) → P i s (deeds ++ g .log i) (g .took i ++ places) → ((l : ℕ) → l ≢ i → P l (g .unit l) (g .log l) (g .took l))
+  pub updated-all : (P : ℕ → State → List Did → List Place → Type 0) → P i s (deeds ++ g .log i) (g .took i ++ places) → ((l : ℕ) → l ≢ i → P l (g .unit l) (g .log l) (g .took l))
       → (l : ℕ) → P l (next .unit l) (next .log l) (next .took l)
   unfolding updated upd
   updated-all P h o l = go (eq? l i)

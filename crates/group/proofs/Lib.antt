@@ -12,3 +12,5 @@ pub mod Logs
 pub mod Members
 pub mod Good
 pub mod Opening
+pub mod Agrees
+pub mod Frames

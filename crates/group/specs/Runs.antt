@@ -4,10 +4,11 @@ use mathlib.Core.List.{List, [], _∷_, _++_, map, List·Memᴰ as Mem}
 use mathlib.Core.Option.{Option, none, some}
 use mathlib.Core.Path.{_≡_}
 use Prim.Native.Nat.{ℕ, zero, suc, _≤_}
-use lib.Dec.{eqb, ltb}
+use lib.Dec.{eqb}
 use lib.ListN.{take}
-use Rattle.rules.specs.Maps.{upd, all, at}
+use Rattle.rules.specs.Maps.{upd, at}
 use Rattle.rules.specs.Message.{Message, Said, message, request, decode}
+use Rattle.rules.specs.Lawful.{Bytes}
 use Rattle.rules.specs.State.{Place, State}
 use Rattle.rules.specs.Calls.{Result, opening, oldest, Call, sends, hears, asks, copies, takes}
 
@@ -86,7 +87,7 @@ updated g i s frames deeds places =
 
 -- what may happen: data sent are bytes, and what arrives is a copy of a frame that some unit wrote
 abbrev pub Proper : Group → Call → Type 0
-Proper g (sends d out) = all (λ b. ltb b 256) d ≡ true
+Proper g (sends d out) = Bytes d
 Proper g (hears l) = Mem l (g .air)
 Proper g (asks k out) = Unit {0}
 Proper g (copies x out) = Unit {0}

@@ -114,7 +114,7 @@ and-false : (a : Bool) → a && false ≡ false
 and-false true = refl
 and-false false = refl
 
-request-no-message : (r : Request) → readAs 1 asMessage (encode (request r)) ≡ none
+pub request-no-message : (r : Request) → readAs 1 asMessage (encode (request r)) ≡ none
 unfolding readAs encode table tagsOf rowOf
 request-no-message r = simp and-false
 

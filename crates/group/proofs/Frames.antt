@@ -41,11 +41,6 @@ request-fine c top r p e =
 
 -- ---- a message
 
-pub frame-fine : (c : Course) (top : ℕ → ℕ) (m : Message) → LawfulMessage m → Of c top m → Fine c top (encode (message m))
-frame-fine c top m h o p e =
-    let same : m ≡ p = (let q : some (message m) ≡ some (message p) = sym (decode-encode (message m) h) ∙ e in cc) in
-    subst (Of c top) same o
-
 pub outgoing-lawful : (s : State) (d : List ℕ) → 2 ≤ s .n → s .n ≤ 8 → s .w ≤ 4 → s .cid ≤ last → s .me < 256 → 1 ≤ s .seq → s .seq < last
     → ((k : ℕ) → Index (s .n) k → (1 ≤ s .req k) × (s .req k ≤ last)) → length d ≤ 48 → Bytes d → LawfulMessage (outgoing s d)
 unfolding outgoing free

@@ -18,7 +18,7 @@ use Rattle.group.specs.Causality.{about, sentIn}
 use Rattle.group.proofs.All.{All, all-map, all-append}
 use Rattle.group.proofs.Course.{Course, Sent, ackOf, said}
 use Rattle.group.proofs.Numbers.{Numbers, Spoken, Closed, bumped, bumped-same, bumped-all, grown, grown-other, written-all, Fresh, numbers-written, spoken-written, closed-written, Next, numbers-accepted, closed-accepted}
-use Rattle.group.proofs.Logs.{Of, of-bumped, Tells, tells-now}
+use Rattle.group.proofs.Logs.{Of, of-message, of-bumped, Tells, tells-now}
 use Rattle.group.proofs.Members.{Member, member-written, member-grown, numbered, sent-is, member-numbered, member-req, member-accepted}
 
 abbrev pub topOf : Course → Group → ℕ → ℕ
@@ -40,16 +40,29 @@ pub record Limits (c : Course) (top : ℕ → ℕ) : Type 0 where
   pub start : (k : ℕ) → Index (c .n) k → 1 ≤ c .first k
   pub end : (k : ℕ) → Index (c .n) k → top k ≤ last
 
+-- each message can be read from its frame
+pub record Readable (c : Course) (top : ℕ → ℕ) : Type 0 where
+  pub read : (j s : ℕ) → Sent c top j s → decode (encode (message (c .msg j s))) ≡ some (message (c .msg j s))
+
 pub record Fair (c : Course) (top : ℕ → ℕ) (R : ℕ → ℕ → ℕ) : Type 0 where
   pub limits : Limits c top
   pub numbers : Numbers c top R
   pub spoken : Spoken c top
   pub closed : Closed c top R
   pub window : Window c top
+  pub readable : Readable c top
 
 -- a frame that says a message says one that was sent
 abbrev pub Fine : Course → (ℕ → ℕ) → List ℕ → Type 0
 Fine c top f = (p : Message) → decode f ≡ some (message p) → Of c top p
+
+pub fine : (c : Course) (top : ℕ → ℕ) → Readable c top → (m : Message) → Of c top m → Fine c top (encode (message m))
+fine c top read m o p e =
+    let same : m ≡ p = (let q : some (message m) ≡ some (message p) = sym back ∙ e in cc) in
+    subst (Of c top) same o
+  where
+    back : decode (encode (message m)) ≡ some (message m)
+    back = subst (λ (x : Message). decode (encode (message x)) ≡ some (message x)) (sym (o .is)) (read .read (m .src) (m .seq) (o .sent))
 
 pub record Holding (c : Course) (top : ℕ → ℕ) (R : ℕ → ℕ → ℕ) (g : Group) : Type 0 where
   pub fair : Fair c top R
@@ -123,6 +136,7 @@ module _ (c : Course) (g : Group) (G : Good c g) (i : ℕ) (inn : Index (c .n) i
           spoken = G .fair .spoken;
           closed = closed-accepted c top R i j inn A (G .fair .spoken) (G .fair .closed);
           window = G .fair .window;
+          readable = G .fair .readable;
         }
 
     heard-own : (l : ℕ) → Index (c .n) l → grown R i j l l ≡ top l
@@ -143,7 +157,8 @@ module _ (c : Course) (g : Group) (G : Good c g) (i : ℕ) (inn : Index (c .n) i
 
   -- ---- the next message of i is sent, and accepted by i
 
-  module _ (N : Fresh c top R i) (room : top i < last) (near : (k : ℕ) → Index (c .n) k → top i < said c k (ackOf (c .msg i (top i)) k) i + c .w) where
+  module _ (N : Fresh c top R i) (room : top i < last) (near : (k : ℕ) → Index (c .n) k → top i < said c k (ackOf (c .msg i (top i)) k) i + c .w)
+      (reads : decode (encode (message (c .msg i (top i)))) ≡ some (message (c .msg i (top i)))) where
     abbrev m : Message
     m = c .msg i (R i i)
 
@@ -169,7 +184,13 @@ module _ (c : Course) (g : Group) (G : Good c g) (i : ℕ) (inn : Index (c .n) i
           numbers = numbers-written c top R i inn N (G .fair .numbers);
           spoken = spoken-written c top R i inn N (G .fair .numbers) (G .fair .spoken);
           closed = closed-written c top R i inn N (G .fair .numbers) (G .fair .closed);
-          window = record { near = λ j s k h kn. written-all c top R i inn N (G .fair .numbers) (λ j s. s < said c k (ackOf (c .msg j s) k) j + c .w) (near k kn) (λ j s b. G .fair .window .near j s k b kn) j s h };
+          window = record {
+            near = λ j s k h kn.
+                written-all c top R i inn N (G .fair .numbers) (λ j s. s < said c k (ackOf (c .msg j s) k) j + c .w) (near k kn) (λ j s b. G .fair .window .near j s k b kn) j s h;
+          };
+          readable = record {
+            read = written-all c top R i inn N (G .fair .numbers) (λ j s. decode (encode (message (c .msg j s))) ≡ some (message (c .msg j s))) reads (G .fair .readable .read);
+          };
         }
 
     A : Next c (bumped top i) R i i
@@ -190,6 +211,7 @@ module _ (c : Course) (g : Group) (G : Good c g) (i : ℕ) (inn : Index (c .n) i
           spoken = written-fair .spoken;
           closed = closed-accepted c (bumped top i) R i i inn A (written-fair .spoken) (written-fair .closed);
           window = written-fair .window;
+          readable = written-fair .readable;
         }
 
     sent-own : (l : ℕ) → Index (c .n) l → grown R i i l l ≡ bumped top i l
@@ -198,9 +220,9 @@ module _ (c : Course) (g : Group) (G : Good c g) (i : ℕ) (inn : Index (c .n) i
         upd-all R i (bumped (R i) i) (λ l f. Index (c .n) l → f l ≡ bumped top i l) (λ x. bumped-same (R i) i ∙ ap suc (N .own) ∙ sym (bumped-same top i))
         (λ l d x. G .own l x ∙ sym (upd-other top i (suc (top i)) l d))
 
-    pub good-sent : Fine c (bumped top i) (encode (message m)) → Good c (updated g i (Steps.sent (g .unit i) m) (encode (message m) ∷ []) (sent m (encode (message m)) ∷ []) [])
+    pub good-sent : Good c (updated g i (Steps.sent (g .unit i) m) (encode (message m) ∷ []) (sent m (encode (message m)) ∷ []) [])
     unfolding numbered bumped
-    good-sent fine =
+    good-sent =
         good-updated g i (Steps.sent (g .unit i) m) (encode (message m) ∷ []) (sent m (encode (message m)) ∷ []) [] c (bumped top i) (grown R i i)
         (omega (arith, length-append (sentIn (g .log i)) (m ∷ []), bumped-same top i)) (λ l d. sym (upd-other top i (suc (top i)) l d))
         (ap (λ (u : State). u .req) (sent-is (g .unit i) m)
@@ -211,7 +233,7 @@ module _ (c : Course) (g : Group) (G : Good c g) (i : ℕ) (inn : Index (c .n) i
         (member-accepted c (bumped top i) R (written-fair .numbers) (written-fair .spoken) (written-fair .closed) i i inn A (numbered (g .unit i) m) (g .log i) (g .took i) refl start
         (sent m (encode (message m))) refl tells))
         (λ l d ln. member-grown c (bumped top i) R l (g .unit l) (g .log l) (g .took l) (member-written c top R l (g .unit l) (g .log l) (g .took l) (G .members l ln) i d) i i)
-        (all-map (λ f h p e. of-bumped c top i p (h p e)) (g .air) (G .air)) (fine, tt)
+        (all-map (λ f h p e. of-bumped c top i p (h p e)) (g .air) (G .air)) (fine c (bumped top i) (written-fair .readable) m (of-message c (bumped top i) (written-fair .spoken) i (R i i) (A .sent) m refl), tt)
       where
         tells : Tells c i m (encode (message m)) (g .log i)
         tells =

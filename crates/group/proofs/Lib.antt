@@ -14,3 +14,4 @@ pub mod Good
 pub mod Opening
 pub mod Agrees
 pub mod Frames
+pub mod EachCall

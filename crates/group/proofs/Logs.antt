@@ -1,7 +1,7 @@
 -- The log of a unit holds just what is below its REQ, and each message sent tells just what stood in it then.
 use mathlib.Core.Logic.{_≢_}
 use mathlib.Core.List.{List, [], _∷_, _++_, map, List·Memᴰ as Mem, List·Memᴰ·head, List·Memᴰ·tail}
-use mathlib.Core.Path.{_≡_, refl, sym, ap, subst, _∙_}
+use mathlib.Core.Path.{_≡_, refl, sym, ap, ap₂, subst, subst₂, _∙_}
 use Prim.Native.Nat.{ℕ, zero, suc, _≤_, _<_}
 use native.Mathlib.Omega.{arith}
 use native.Mathlib.Nat.{le-trans}
@@ -10,12 +10,21 @@ use Rattle.group.specs.Runs.{Index, Did, sent, accepted}
 use Rattle.group.specs.Causality.{Ahead, here, there, about, sentIn}
 use Rattle.group.proofs.All.{All, all-map, all-mem, mem-unmap}
 use Rattle.group.proofs.Course.{Course, Sent, ackOf}
-use Rattle.group.proofs.Numbers.{bumped, bumped-up, bumped-same, bumped-all, sent-bumped}
+use Rattle.group.proofs.Numbers.{Spoken, bumped, bumped-up, bumped-same, bumped-all, sent-bumped}
 
 -- m was sent
 pub record Of (c : Course) (top : ℕ → ℕ) (m : Message) : Type 0 where
   pub sent : Sent c top (m .src) (m .seq)
   pub is : m ≡ c .msg (m .src) (m .seq)
+
+pub of-message : (c : Course) (top : ℕ → ℕ) → Spoken c top → (j s : ℕ) → Sent c top j s → (m : Message) → m ≡ c .msg j s → Of c top m
+of-message c top H j s h m e = record { sent = subst₂ (Sent c top) (sym src) (sym seq) h; is = e ∙ sym (ap₂ (c .msg) src seq) }
+  where
+    src : m .src ≡ j
+    src = ap (λ (x : Message). x .src) e ∙ H .src j s h
+
+    seq : m .seq ≡ s
+    seq = ap (λ (x : Message). x .seq) e ∙ H .seq j s h
 
 pub of-bumped : (c : Course) (top : ℕ → ℕ) (i : ℕ) (m : Message) → Of c top m → Of c (bumped top i) m
 of-bumped c top i m o = record { sent = sent-bumped c top i (m .src) (m .seq) (o .sent); is = o .is }
@@ -49,11 +58,11 @@ log-bumped c top r i k l G =
     }
 
 -- one more is accepted, own or heard
-pub log-accepted : (c : Course) (top r : ℕ → ℕ) (i j : ℕ) (e : Did) (l : List Did) → Log c top r i l → Of c top (about e) → about e ≡ c .msg j (r j) → about e .src ≡ j → about e .seq ≡ r j
+pub log-accepted : (c : Course) (top r : ℕ → ℕ) (i j : ℕ) (e : Did) (l : List Did) → Log c top r i l → Spoken c top → Sent c top j (r j) → about e ≡ c .msg j (r j)
     → TellsIfSent c i e l → Log c top (bumped r j) i (e ∷ l)
-log-accepted c top r i j e l G o is src seq t =
+log-accepted c top r i j e l G H h is t =
     record {
-      have = ((o, subst (λ k. about e .seq < bumped r j k) (sym src) new),
+      have = ((of-message c top H j (r j) h (about e) is, subst (λ (m : Message). m .seq < bumped r j (m .src)) (sym is) new),
           all-map (λ d (h : Of c top (about d) × (about d .seq < r (about d .src))). (h .0, le-trans (h .1) (bumped-up r j (about d .src)))) l (G .have));
       full = λ k s kn low h.
           bumped-all r j (λ k s. Index (c .n) k → c .first k ≤ s → Mem (c .msg k s) (map about (e ∷ l)))
@@ -61,8 +70,8 @@ log-accepted c top r i j e l G o is src seq t =
       tell = (t, G .tell);
     }
   where
-    new : about e .seq < bumped r j j
-    new = omega (arith, bumped-same r j)
+    new : c .msg j (r j) .seq < bumped r j (c .msg j (r j) .src)
+    new = subst (λ k. c .msg j (r j) .seq < bumped r j k) (sym (H .src j (r j) h)) (omega (arith, H .seq j (r j) h, bumped-same r j))
 
 -- what a new message tells
 pub tells-now : (c : Course) (top r : ℕ → ℕ) (i : ℕ) (m : Message) (l : List Did) → Log c top r i l → m .src ≡ i → ((k : ℕ) → Index (c .n) k → ackOf m k ≡ r k)

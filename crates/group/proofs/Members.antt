@@ -2,7 +2,7 @@
 use mathlib.Core.Bool.{Bool, true, false, cond}
 use mathlib.Core.Logic.{_≢_}
 use mathlib.Core.List.{List, [], _∷_, _++_}
-use mathlib.Core.Path.{_≡_, refl, sym, ap, ap₂, subst, _∙_}
+use mathlib.Core.Path.{_≡_, refl, sym, ap, subst, _∙_}
 use Prim.Native.Nat.{ℕ, zero, suc, _≤_, _<_}
 use native.Mathlib.Omega.{arith}
 use native.Mathlib.Nat.{le-trans}
@@ -21,7 +21,7 @@ use Rattle.group.proofs.Numbers.{Numbers, Spoken, Closed, bumped, bumpe
 use Rattle.group.proofs.Lists.{Part, part}
 use Rattle.group.proofs.Settle.{Core, core}
 use Rattle.group.proofs.Tidy.{Tidy, Told, tidy-written, tidy-grown, minAL-up, accepted-core, accepted-req, tidy-accepted, told-accepted}
-use Rattle.group.proofs.Logs.{Of, TellsIfSent, Log, log-bumped, log-accepted}
+use Rattle.group.proofs.Logs.{TellsIfSent, Log, log-bumped, log-accepted}
 
 pub record Member (c : Course) (top : ℕ → ℕ) (R : ℕ → ℕ → ℕ) (i : ℕ) (u : State) (log : List Did) (took : List Place) : Type 0 where
   pub me : u .me ≡ i
@@ -144,14 +144,5 @@ module _ (c : Course) (top : ℕ → ℕ) (R : ℕ → ℕ → ℕ) (I : Numbers
         kept = subst (λ (k : Core). (s : ℕ) → least (k .n) (k .al i) ≤ s → s < top i → k .kept s ≡ encode (message (c .msg i s))) (sym rest) stored-kept;
         logs =
             subst (λ (r : ℕ → ℕ). Log c top r i (e ∷ log)) (sym (member-req ∙ upd-same R i (bumped (R i) j)))
-            (log-accepted c top (R i) i j e log (subst (λ (r : ℕ → ℕ). Log c top r i log) same (M .logs)) of is src seq t);
+            (log-accepted c top (R i) i j e log (subst (λ (r : ℕ → ℕ). Log c top r i log) same (M .logs)) H (A .sent) is t);
       }
-    where
-      src : about e .src ≡ j
-      src = ap (λ (m : Message). m .src) is ∙ H .src j (R i j) (A .sent)
-
-      seq : about e .seq ≡ R i j
-      seq = ap (λ (m : Message). m .seq) is ∙ H .seq j (R i j) (A .sent)
-
-      of : Of c top (about e)
-      of = record { sent = subst (λ x. Sent c top x (about e .seq)) (sym src) (subst (Sent c top j) (sym seq) (A .sent)); is = is ∙ sym (ap₂ (c .msg) src seq) }

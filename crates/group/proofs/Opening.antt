@@ -154,6 +154,7 @@ module _ (c : Course) (opens : (i : ℕ) → Index (c .n) i → opening i (c .n)
             chain = λ l t j s k h jn kn low b. absurd (omega arith);
           };
           window = record { near = λ j s k h kn. absurd (omega arith) };
+          readable = record { read = λ j s h. absurd (omega arith) };
         };
         own = λ i inn. omega (arith, req-first i i inn inn);
         members = λ i inn. subst (λ (u : State). Member c (topOf c start) (reqs start) i u [] []) (sym (said-open i inn .unit)) (start-member i inn);

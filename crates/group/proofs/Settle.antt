@@ -45,6 +45,9 @@ pub record Settled (c : Course) (top : ℕ → ℕ) (done : List Place) (u : Par
   pub lists : Lists c top pre done u
   pub calm : (j : ℕ) → Index (c .n) j → least (u .n) (u .al j) ≤ pre j
 
+pub first-le : (c : Course) (top : ℕ → ℕ) (pre : ℕ → ℕ) (done : List Place) (u : Part) → Lists c top pre done u → (j : ℕ) → Index (c .n) j → c .first j ≤ pre j
+first-le c top pre done u L j jn = omega (arith, upward-length (c .first j) (from j (done ++ u .ordered)) (pre j) (L .lane j jn))
+
 pub pre-le : (c : Course) (top : ℕ → ℕ) (pre : ℕ → ℕ) (done : List Place) (u : Part) → Lists c top pre done u → (j : ℕ) → Index (c .n) j → pre j ≤ u .req j
 pre-le c top pre done u L j jn = omega (arith, upward-length (pre j) (from j (u .waiting)) (u .req j) (L .rest j jn))
 

@@ -2,7 +2,7 @@
 use mathlib.Core.Bool.{Bool, true, false, cond}
 use mathlib.Core.Logic.{_≢_}
 use mathlib.Core.List.{List, [], _∷_, _++_}
-use mathlib.Core.Path.{_≡_, refl, sym, ap, ap₂, subst, _∙_}
+use mathlib.Core.Path.{_≡_, refl, sym, ap, ap₂, subst, subst₂, _∙_}
 use Prim.Native.Nat.{ℕ, zero, suc, _≤_, _<_}
 use native.Mathlib.Omega.{arith}
 use native.Mathlib.Nat.{le-refl, le-trans}
@@ -100,7 +100,7 @@ module _ (c : Course) (top : ℕ → ℕ) (R : ℕ → ℕ → ℕ) (I : Numbers
   unfolding placed
   placed-holds u =
       record {
-        sent = subst (λ x. Sent c top x (p .seq)) (sym src) (subst (Sent c top j) (sym seq) (A .sent));
+        sent = subst₂ (Sent c top) (sym src) (sym seq) (A .sent);
         ack = ap (λ (m : Message). m .ack) (sym (ap₂ (c .msg) src seq));
         text = ap (λ (m : Message). m .text) (sym (ap₂ (c .msg) src seq));
       }

@@ -46,7 +46,7 @@ wrote (copies x out) r = front 1 r ∷ []
 wrote (takes out) r = []
 
 -- the message in a frame, if it is a data frame
-abbrev messageOf : Option Said → List Message
+abbrev pub messageOf : Option Said → List Message
 messageOf none = []
 messageOf (some (message m)) = m ∷ []
 messageOf (some (request r)) = []

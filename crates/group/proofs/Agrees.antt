@@ -16,7 +16,7 @@ use Rattle.group.proofs.Course.{Course, nothing}
 use Rattle.group.proofs.Good.{topOf, updated-all}
 
 -- j's messages in the log l
-abbrev Listed : Course → ℕ → List Did → Type 0
+abbrev pub Listed : Course → ℕ → List Did → Type 0
 Listed c j l = (s : ℕ) → c .first j ≤ s → s < c .first j + length (sentIn l) → getD (sentIn l) (s - c .first j) nothing ≡ c .msg j s
 
 abbrev pub Agrees : Course → Group → Type 0

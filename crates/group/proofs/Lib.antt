@@ -15,3 +15,7 @@ pub mod Opening
 pub mod Agrees
 pub mod Frames
 pub mod EachCall
+pub mod Confirmed
+pub mod Causes
+pub mod Reach
+pub mod Theorem

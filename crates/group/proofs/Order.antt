@@ -21,6 +21,14 @@ Precedes p q = p .seq < at (q .ack) (p .src)
 abbrev pub Ordered : List Place → Type 0
 Ordered = Pairs (λ x y. ¬ (Precedes y x))
 
+pub precedes? : (p q : Place) → at (q .ack) (q .src) ≡ q .seq → Lt? (p .seq) (at (q .ack) (p .src)) (precedes p q)
+unfolding precedes
+precedes? p q own = go (eq? (p .src) (q .src))
+  where
+    go : {t : Bool} → Eq? (p .src) (q .src) t → Lt? (p .seq) (at (q .ack) (p .src)) (cond t (ltb (p .seq) (q .seq)) (ltb (p .seq) (at (q .ack) (p .src))))
+    go (same e) = subst (λ x. Lt? (p .seq) x (ltb (p .seq) (q .seq))) (sym (ap (at (q .ack)) e ∙ own)) (lt? (p .seq) (q .seq))
+    go (other d) = lt? (p .seq) (at (q .ack) (p .src))
+
 pub all-insert : (P : Place → Type 0) (p : Place) (l : List Place) → P p → All P l → All P (insert p l)
 all-insert P p [] a h = (a, tt)
 all-insert P p (q ∷ l) a h = go (precedes p q) (all-insert P p l a (h .1))
@@ -35,17 +43,9 @@ module _ (M : Place → Type 0) (own : (p : Place) → M p → at (p .ack) (p .s
   pub precedes-trans : (p q r : Place) → M p → M q → M r → Precedes p q → Precedes q r → Precedes p r
   precedes-trans p q r mp mq mr a b = omega (arith, chain q r p mq mr mp b)
 
-  pub precedes? : (p q : Place) → M q → Lt? (p .seq) (at (q .ack) (p .src)) (precedes p q)
-  unfolding precedes
-  precedes? p q mq = go (eq? (p .src) (q .src))
-    where
-      go : {t : Bool} → Eq? (p .src) (q .src) t → Lt? (p .seq) (at (q .ack) (p .src)) (cond t (ltb (p .seq) (q .seq)) (ltb (p .seq) (at (q .ack) (p .src))))
-      go (same e) = subst (λ x. Lt? (p .seq) x (ltb (p .seq) (q .seq))) (sym (ap (at (q .ack)) e ∙ own q mq)) (lt? (p .seq) (q .seq))
-      go (other d) = lt? (p .seq) (at (q .ack) (p .src))
-
   ordered-insert : (p : Place) (l : List Place) → M p → All M l → Ordered l → Ordered (insert p l)
   ordered-insert p [] mp ml o = (tt, tt)
-  ordered-insert p (q ∷ l) mp ml o = go (precedes? p q (ml .0)) (ordered-insert p l mp (ml .1) (o .1))
+  ordered-insert p (q ∷ l) mp ml o = go (precedes? p q (own q (ml .0))) (ordered-insert p l mp (ml .1) (o .1))
     where
       go : {t : Bool} → Lt? (p .seq) (at (q .ack) (p .src)) t → Ordered (insert p l) → Ordered (cond t (p ∷ q ∷ l) (q ∷ insert p l))
       go (lt h) i =
@@ -81,7 +81,7 @@ module _ (M : Place → Type 0) (own : (p : Place) → M p → at (p .ack) (p .s
       → from (p .src) (insert p l) ≡ from (p .src) l ++ (p ∷ [])
   unfolding from
   from-insert p [] mp ml o f = from-same (p .src) p [] refl
-  from-insert p (q ∷ l) mp ml o f = go (precedes? p q (ml .0)) (from-insert p l mp (ml .1) (o .1) (f .1))
+  from-insert p (q ∷ l) mp ml o f = go (precedes? p q (own q (ml .0))) (from-insert p l mp (ml .1) (o .1) (f .1))
     where
       put : (t : Bool) (x y : List Place) → x ≡ y ++ (p ∷ []) → cond t (q ∷ x) x ≡ cond t (q ∷ y) y ++ (p ∷ [])
       put true x y e = ap (λ (z : List Place). q ∷ z) e

@@ -54,7 +54,7 @@ module _ (n : ℕ) (g : Group) where
   abbrev pub InCausalOrder : Type 0
   InCausalOrder =
       (i : ℕ) → Index n i → (p q : Place) → Ahead p q (confirmedAt g i)
-      → (a b : Message) → inPlace p ≡ inMessage a → inPlace q ≡ inMessage b → ¬ (Cause g b a)
+      → (a b : Message) → inPlace p ≡ inMessage a → inPlace q ≡ inMessage b → ¬ (Cause n g b a)
 
   -- what one unit has confirmed, every unit has pre-acknowledged
   abbrev pub PreackedByAll : Type 0
@@ -84,4 +84,4 @@ pub record Demand3 (n w : ℕ) (g : Group) : Type 0 where
 abbrev pub PrecedenceIsCausality : ℕ → Group → Type 0
 PrecedenceIsCausality n g =
     (j k : ℕ) → Index n j → Index n k → (a b : Message) → Mem a (sentIn (g .log j)) → Mem b (sentIn (g .log k))
-    → (p q : Place) → inPlace p ≡ inMessage a → inPlace q ≡ inMessage b → (precedes p q ≡ true) ↔ Cause g a b
+    → (p q : Place) → inPlace p ≡ inMessage a → inPlace q ≡ inMessage b → (precedes p q ≡ true) ↔ Cause n g a b

@@ -19,3 +19,5 @@ pub mod Confirmed
 pub mod Causes
 pub mod Reach
 pub mod Theorem
+pub mod Scripts
+pub mod Talk

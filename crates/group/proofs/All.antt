@@ -67,6 +67,13 @@ module _ {A : Type 0} where
   mem-getD (x ∷ l) zero d h = List·Memᴰ·head refl
   mem-getD (x ∷ l) (suc s) d h = List·Memᴰ·tail (mem-getD l s d (omega arith))
 
+module _ {A : Type 0} (d : A) where
+  pub ahead-getD : (l : List A) (x y : ℕ) → x < y → y < length l → Ahead (getD l x d) (getD l y d) l
+  ahead-getD [] x y h k = absurd (omega arith)
+  ahead-getD (z ∷ l) x zero h k = absurd (omega arith)
+  ahead-getD (z ∷ l) zero (suc y) h k = here refl (mem-getD l y d (omega arith))
+  ahead-getD (z ∷ l) (suc x) (suc y) h k = there (ahead-getD l x y (omega arith) (omega arith))
+
 pub mem-map : {A B : Type 0} (f : A → B) (x : A) (l : List A) → Mem x l → Mem (f x) (map f l)
 mem-map f x (y ∷ l) (List·Memᴰ·head e) = List·Memᴰ·head (ap f e)
 mem-map f x (y ∷ l) (List·Memᴰ·tail m) = List·Memᴰ·tail (mem-map f x l m)

@@ -17,7 +17,7 @@ use Rattle.group.proofs.All.{All, all-mem, pairs-left, pairs-ahead, ahe
 use Rattle.group.proofs.Order.{Precedes, Ordered, precedes?}
 use Rattle.group.proofs.Course.{Course, Sent, ackOf}
 use Rattle.group.proofs.Numbers.{Spoken, Closed}
-use Rattle.group.proofs.Logs.{Of, AllTell, Log, tells-back, tells-forth}
+use Rattle.group.proofs.Logs.{Of, Has, Log, tells-back, tells-forth}
 
 -- what is sent is in the log
 sent-mem : (m : Message) (l : List Did) → Mem m (sentIn l) → (f : List ℕ) × Mem (sent m f) l
@@ -30,7 +30,7 @@ sent-mem m (accepted p ∷ l) h = let r = sent-mem m l h in (r .0, List·Memᴰ�
 
 module _ (c : Course) (top : ℕ → ℕ) (R : ℕ → ℕ → ℕ) (g : Group) (H : Spoken c top) (C : Closed c top R) (logs : (i : ℕ) → Index (c .n) i → Log c top (R i) i (g .log i)) where
   log-of : (i : ℕ) → Index (c .n) i → (e : Did) → Mem e (g .log i) → Of c top (about e)
-  log-of i inn e h = all-mem (λ x. Of c top (about x) × (about x .seq < R i (about x .src))) e (g .log i) h (logs i inn .have) .0
+  log-of i inn e h = all-mem (Has c top (R i)) e (g .log i) h (logs i inn .have) .of
 
   -- p's number is below what q's sender then expected of p's
   pub record Before (p q : Message) : Type 0 where
@@ -47,9 +47,14 @@ module _ (c : Course) (top : ℕ → ℕ) (R : ℕ → ℕ → ℕ) (g : Group) 
         one = a .one;
         two = b .two;
         under =
-            omega (arith, a .under, ack-of q (a .two) (p .src), ack-of r (b .two) (p .src),
-            C .chain (r .src) (r .seq) (q .src) (q .seq) (p .src) (b .two .sent) (b .one .sent .index) (a .one .sent .index) (b .one .sent .low)
-            (omega (arith, b .under, ack-of r (b .two) (q .src))));
+            omega (
+              arith,
+              a .under,
+              ack-of q (a .two) (p .src),
+              ack-of r (b .two) (p .src),
+              C .chain (r .src) (r .seq) (q .src) (q .seq) (p .src) (b .two .sent) (b .one .sent .index) (a .one .sent .index) (b .one .sent .low)
+                  (omega (arith, b .under, ack-of r (b .two) (q .src))),
+            );
       }
 
   pub cause-before : (p q : Message) → Cause (c .n) g p q → Before p q

@@ -25,14 +25,13 @@ use Rattle.rules.proofs.CallsLaws.{Passed, Refused, now, later, send-cases, dat
 use Rattle.group.specs.Runs.{Index, Did, sent, accepted, Group, wrote, messageOf, did, handed, ifDone, updated, Proper, after}
 use Rattle.group.proofs.All.{All, all-mem}
 use Rattle.group.proofs.Course.{Course, Sent, ackOf, said}
-use Rattle.group.proofs.Numbers.{Fresh, Next, bumped, bumped-same}
+use Rattle.group.proofs.Growth.{Fresh, Next}
 use Rattle.group.proofs.Lists.{part}
-use Rattle.group.proofs.Settle.{Settled, first-le}
+use Rattle.group.proofs.Settle.{core, Settled, first-le}
 use Rattle.group.proofs.Columns.{row-le}
-use Rattle.group.proofs.Tidy.{Tidy}
 use Rattle.group.proofs.Logs.{Of, of-message}
 use Rattle.group.proofs.Members.{Member}
-use Rattle.group.proofs.Good.{topOf, reqs, Fine, fine, Good, good-kept, good-heard, good-sent}
+use Rattle.group.proofs.Good.{topOf, reqs, Fine, frame-fine, Seat, Good, good-kept, good-heard, good-sent}
 use Rattle.group.proofs.Agrees.{Agrees, agrees-before, agrees-sent}
 use Rattle.group.proofs.Frames.{request-fine, outgoing-lawful}
 
@@ -58,7 +57,7 @@ module _ (c : Course) (g : Group) (G : Good c g) (i : ℕ) (inn : Index (c .n) i
   abbrev s : State
   s = g .unit i
 
-  M : Member c (topOf c g) (reqs g) i s (g .log i) (g .took i)
+  M : Seat c (topOf c g) (reqs g) i s (g .log i) (g .took i)
   M = G .members i inn
 
   -- what the event leaves, of a call with this result
@@ -66,15 +65,11 @@ module _ (c : Course) (g : Group) (G : Good c g) (i : ℕ) (inn : Index (c .n) i
   then cl r = updated g i (r .next) (ifDone r (wrote cl r)) (ifDone r (did cl r)) (ifDone r (handed cl s))
 
   -- nothing is taken: the unit may differ where nothing is said of it
-  still : (u : State) → Member c (topOf c g) (reqs g) i u (g .log i) (g .took i) → Member c (topOf c g) (reqs g) i u (g .log i) (g .took i ++ [])
-  still u N = subst (Member c (topOf c g) (reqs g) i u (g .log i)) (sym (append-nil (g .took i))) N
+  still : (u : State) → Seat c (topOf c g) (reqs g) i u (g .log i) (g .took i) → Member c (topOf c g) (reqs g) i u (g .log i) (g .took i ++ [])
+  still u N = subst (Seat c (topOf c g) (reqs g) i u (g .log i)) (sym (append-nil (g .took i))) N
 
-  refused : (cl : Call) (m a : ℕ) (u : State) (out : List ℕ) → a ≢ 0 → u .req ≡ s .req → Member c (topOf c g) (reqs g) i u (g .log i) (g .took i) → Good c (then cl (refusal m u out a))
-  refused cl m a u out d e N = rw (ne-eqb a 0 d) (good-kept c g G i inn u [] [] e (still u N) tt)
-
-  member-noted : (p : Message) → Member c (topOf c g) (reqs g) i (noted s p) (g .log i) (g .took i)
-  unfolding noted minAL
-  member-noted p = record { me = M .me; w = M .w; cid = M .cid; seq = M .seq; tidy = M .tidy; told = M .told; kept = M .kept; logs = M .logs }
+  refused : (cl : Call) (m a : ℕ) (u : State) (out : List ℕ) → a ≢ 0 → u .req ≡ s .req → Seat c (topOf c g) (reqs g) i u (g .log i) (g .took i) → Good c (then cl (refusal m u out a))
+  refused cl m a u out d e N = rw (ne-eqb a 0 d) (good-kept G i u [] [] e (still u N) tt)
 
   -- ---- a frame is written, and nothing else changes
 
@@ -82,7 +77,7 @@ module _ (c : Course) (g : Group) (G : Good c g) (i : ℕ) (inn : Index (c .n) i
   frame-written f out = take-append-seam f (drop (length f) out)
 
   wrote-good : (f out : List ℕ) → Fine c (topOf c g) f → Good c (updated g i s (take (length f) (written out f) ∷ []) [] [])
-  wrote-good f out h = good-kept c g G i inn s (take (length f) (written out f) ∷ []) [] refl (still s M) (subst (Fine c (topOf c g)) (sym (frame-written f out)) h, tt)
+  wrote-good f out h = good-kept G i s (take (length f) (written out f) ∷ []) [] refl (still s M) (subst (Fine c (topOf c g)) (sym (frame-written f out)) h, tt)
 
   make-good : (k : ℕ) (out : List ℕ) → Good c (then (asks k out) (Calls.makeRequest s k out))
   unfolding makeChecks
@@ -93,7 +88,7 @@ module _ (c : Course) (g : Group) (G : Good c g) (i : ℕ) (inn : Index (c .n) i
 
   kept-fine : (x : ℕ) → isKept s x ≡ true → Fine c (topOf c g) (s .kept x)
   unfolding isKept minAL
-  kept-fine x k = subst (Fine c (topOf c g)) (sym (M .kept x low high)) (fine c (topOf c g) (G .fair .readable) (c .msg i x) (of-message c (topOf c g) (G .fair .spoken) i x here (c .msg i x) refl))
+  kept-fine x k = subst (Fine c (topOf c g)) (sym (M .kept x low high)) (frame-fine (G .fair .readable) (of-message (G .fair .spoken) here refl))
     where
       low : minAL s i ≤ x
       low = subst (λ j. minAL s j ≤ x) (M .me) (leb-true (minAL s (s .me)) x (and-both (leb (minAL s (s .me)) x) (ltb x (s .seq)) k .0))
@@ -105,7 +100,7 @@ module _ (c : Course) (g : Group) (G : Good c g) (i : ℕ) (inn : Index (c .n) i
       S = M .tidy .settled
 
       here : Sent c (topOf c g) i x
-      here = record { index = inn; low = le-trans (first-le c (topOf c g) (S .pre) (g .took i ++ s .confirmed) (part s) (S .lists) i inn) (le-trans (S .lists .early i inn) low); high = high }
+      here = record { index = inn; low = le-trans (first-le (S .lists) i inn) (le-trans (S .lists .early i inn) low); high = high }
 
   copy-good : (x : ℕ) (out : List ℕ) → Good c (then (copies x out) (Calls.copy s x out))
   unfolding copyChecks
@@ -121,19 +116,10 @@ module _ (c : Course) (g : Group) (G : Good c g) (i : ℕ) (inn : Index (c .n) i
   front-back (p ∷ l) t d h = append-snoc t p l
 
   taken-good : length (s .confirmed) ≢ 0 → Good c (updated g i (withoutTaken s) [] [] (oldest s ∷ []))
-  unfolding withoutTaken oldest minAL
+  unfolding withoutTaken oldest
   taken-good h =
-      good-kept c g G i inn (withoutTaken s) [] (oldest s ∷ []) refl
-      (record {
-        me = M .me;
-        w = M .w;
-        cid = M .cid;
-        seq = M .seq;
-        tidy = subst (λ (l : List Place). Tidy c (topOf c g) (reqs g) l (part s)) (sym (front-back (s .confirmed) (g .took i) _ h)) (M .tidy);
-        told = M .told;
-        kept = M .kept;
-        logs = M .logs;
-      }) tt
+      good-kept G i (withoutTaken s) [] (oldest s ∷ []) refl
+      (subst (λ (l : List Place). Member c (topOf c g) (reqs g) i (core s) (part s) l (g .log i)) (sym (front-back (s .confirmed) (g .took i) _ h)) M) tt
 
   take-good : (out : List ℕ) → Good c (then (takes out) (Calls.take s out))
   unfolding takeChecks
@@ -149,11 +135,11 @@ module _ (c : Course) (g : Group) (G : Good c g) (i : ℕ) (inn : Index (c .n) i
   request-good l r e =
       request-cases s (λ x. Good c (then (hears l) x)) r
       (λ a x. refused (hears l) 2 a s [] (refused-real a (requestChecks s r) (omega arith) x) refl M)
-      (λ p. subst (λ (o : Option Said). Good c (updated g i s [] (map accepted (messageOf o)) [])) (sym e) (good-kept c g G i inn s [] [] refl (still s M) tt))
+      (λ p. subst (λ (o : Option Said). Good c (updated g i s [] (map accepted (messageOf o)) [])) (sym e) (good-kept G i s [] [] refl (still s M) tt))
 
   data-refused : (l : List ℕ) (p : Message) (a : ℕ) → a ≢ 0 → (t : Bool) → Good c (then (hears l) (refusal 2 (cond t (noted s p) s) [] a))
   unfolding noted
-  data-refused l p a d true = refused (hears l) 2 a (noted s p) [] d refl (member-noted p)
+  data-refused l p a d true = refused (hears l) 2 a (noted s p) [] d refl M
   data-refused l p a d false = refused (hears l) 2 a s [] d refl M
 
   accepted-good : (l : List ℕ) (p : Message) → decode l ≡ some (message p) → Of c (topOf c g) p → Passed (dataChecks s p)
@@ -161,7 +147,7 @@ module _ (c : Course) (g : Group) (G : Good c g) (i : ℕ) (inn : Index (c .n) i
   unfolding dataChecks known
   accepted-good l p e o P =
       subst (λ (x : Option Said). Good c (updated g i (Steps.accepted s p) [] (map accepted (messageOf x)) [])) (sym e)
-      (subst (λ (m : Message). Good c (updated g i (Steps.accepted s m) [] (accepted m ∷ []) [])) (sym is) (good-heard c g G i inn (p .src) far next))
+      (subst (λ (m : Message). Good c (updated g i (Steps.accepted s m) [] (accepted m ∷ []) [])) (sym is) (good-heard G i next far))
     where
       far : i ≢ p .src
       far x = eqb-false (p .src) (s .me) (P .1 .1 .1 .0) (sym (M .me ∙ x))
@@ -175,6 +161,7 @@ module _ (c : Course) (g : Group) (G : Good c g) (i : ℕ) (inn : Index (c .n) i
       next : Next c (topOf c g) (reqs g) i (p .src)
       next =
           record {
+            index = inn;
             sent = subst (Sent c (topOf c g) (p .src)) seq (o .sent);
             known = λ k kn d.
                 subst (λ (m : Message). ackOf m k ≤ s .req k) is (known-says s p (not-false (known s p) (P .1 .1 .1 .1 .1 .1 .1 .0)) k (kn .0, omega (arith, M .tidy .size)) d);
@@ -219,6 +206,7 @@ module _ (c : Course) (g : Group) (G : Good c g) (i : ℕ) (inn : Index (c .n) i
     unfolding outgoing
     fresh e =
         record {
+          index = inn;
           src = ap (λ (x : Message). x .src) (sym e) ∙ M .me;
           seq = ap (λ (x : Message). x .seq) (sym e) ∙ M .seq;
           ack = λ k kn. ap (λ (x : Message). ackOf x k) (sym e) ∙ ack-is k kn;
@@ -228,13 +216,21 @@ module _ (c : Course) (g : Group) (G : Good c g) (i : ℕ) (inn : Index (c .n) i
     near : (k : ℕ) → Index (c .n) k → topOf c g i < said c k (ackOf m k) i + c .w
     unfolding sendChecks maySend window minAL
     near k kn =
-        omega (arith, ltb-true (s .seq) (minAL s (s .me) + window s) (not-false (maySend s) (P .1 .1 .1 .0)), M .seq, M .w,
-        ap (λ j. minAL s j) (M .me), row-le c (s .n) (M .tidy .size) (s .al i) k kn, M .told .told k kn .says i inn, ap (λ r. said c k r i) (ack-is k kn))
+        omega (
+          arith,
+          ltb-true (s .seq) (minAL s (s .me) + window s) (not-false (maySend s) (P .1 .1 .1 .0)),
+          M .seq,
+          M .w,
+          ap (λ j. minAL s j) (M .me),
+          row-le (M .tidy .size) (s .al i) k kn,
+          M .told .told k kn .says i inn,
+          ap (λ r. said c k r i) (ack-is k kn),
+        )
 
     sent-good : m ≡ c .msg i (topOf c g i) → Good c (updated g i (Steps.sent s m) (encode (message m) ∷ []) (sent m (encode (message m)) ∷ []) [])
     sent-good e =
         subst (λ (x : Message). Good c (updated g i (Steps.sent s x) (encode (message x) ∷ []) (sent x (encode (message x)) ∷ []) [])) (sym (e ∙ ap (c .msg i) (sym (G .own i inn))))
-        (good-sent c g G i inn (fresh e) room (subst (λ (x : Message). (k : ℕ) → Index (c .n) k → topOf c g i < said c k (ackOf x k) i + c .w) e near)
+        (good-sent G i (fresh e) room (subst (λ (x : Message). (k : ℕ) → Index (c .n) k → topOf c g i < said c k (ackOf x k) i + c .w) e near)
         (subst (λ (x : Message). decode (encode (message x)) ≡ some (message x)) e (decode-encode (message m) lawful)))
 
     -- the event, seen plainly: the frame is written, and m is what it says

@@ -1,23 +1,25 @@
--- What holds in every state of a run, and its three kinds of steps: a message sent, a message accepted from another, and all else.
+-- What holds in every state of a run, and the three kinds of steps: a message sent, a message accepted from another, and all else.
 use mathlib.Core.Bool.{Bool, true, false, cond}
 use mathlib.Core.Logic.{_≢_}
 use mathlib.Core.List.{List, [], _∷_, _++_, append-nil}
 use mathlib.Core.Option.{some}
 use mathlib.Core.Path.{_≡_, refl, sym, ap, subst, subst₂, _∙_, fun-ext}
-use Prim.Native.Nat.{ℕ, zero, suc, _+_, _≤_, _<_}
+use Prim.Native.Nat.{ℕ, suc, _+_, _≤_, _<_}
 use native.Mathlib.Omega.{arith}
-use native.Mathlib.Nat.{le-refl, le-trans}
 use lib.ListN.{length, length-append}
-use Rattle.rules.specs.Maps.{at, upd}
+use Rattle.rules.specs.Maps.{upd}
 use Rattle.rules.specs.Message.{Message, message, encode, decode, last}
 use Rattle.rules.specs.State.{Place, State}
 use Rattle.rules.specs.Steps as Steps
-use Rattle.rules.proofs.MapsLaws.{Eq?, same, other, eq?, upd-all, upd-same, upd-other}
+use Rattle.rules.proofs.MapsLaws.{Eq?, same, other, eq?, upd-all}
 use Rattle.group.specs.Runs.{Index, Did, sent, accepted, Group, updated}
-use Rattle.group.specs.Causality.{about, sentIn}
+use Rattle.group.specs.Causality.{sentIn}
 use Rattle.group.proofs.All.{All, all-map, all-append}
 use Rattle.group.proofs.Course.{Course, Sent, ackOf, said}
-use Rattle.group.proofs.Numbers.{Numbers, Spoken, Closed, bumped, bumped-same, bumped-all, grown, grown-other, written-all, Fresh, numbers-written, spoken-written, closed-written, Next, numbers-accepted, closed-accepted}
+use Rattle.group.proofs.Numbers.{Numbers, Spoken, Closed}
+use Rattle.group.proofs.Growth.{bumped, bumped-same, bumped-other, grown, grown-other, Fresh, written-all, numbers-written, spoken-written, closed-written, Next, numbers-accepted, closed-accepted}
+use Rattle.group.proofs.Lists.{Part, part}
+use Rattle.group.proofs.Settle.{Core, core}
 use Rattle.group.proofs.Logs.{Of, of-message, of-bumped, Tells, tells-now}
 use Rattle.group.proofs.Members.{Member, member-written, member-grown, numbered, sent-is, member-numbered, member-req, member-accepted}
 
@@ -56,18 +58,24 @@ pub record Fair (c : Course) (top : ℕ → ℕ) (R : ℕ → ℕ → ℕ) : Typ
 abbrev pub Fine : Course → (ℕ → ℕ) → List ℕ → Type 0
 Fine c top f = (p : Message) → decode f ≡ some (message p) → Of c top p
 
-pub fine : (c : Course) (top : ℕ → ℕ) → Readable c top → (m : Message) → Of c top m → Fine c top (encode (message m))
-fine c top read m o p e =
-    let same : m ≡ p = (let q : some (message m) ≡ some (message p) = sym back ∙ e in cc) in
-    subst (Of c top) same o
+pub frame-fine : {c : Course} {top : ℕ → ℕ} → Readable c top → {m : Message} → Of c top m → Fine c top (encode (message m))
+frame-fine {c} {top} read {m} o p e = subst (Of c top) same o
   where
     back : decode (encode (message m)) ≡ some (message m)
-    back = subst (λ (x : Message). decode (encode (message x)) ≡ some (message x)) (sym (o .is)) (read .read (m .src) (m .seq) (o .sent))
+    back =
+        subst (λ (x : Message). decode (encode (message x)) ≡ some (message x)) (sym (o .is)) (read .read (m .src) (m .seq) (o .sent))
+
+    same : m ≡ p
+    same = let q : some (message m) ≡ some (message p) = sym back ∙ e in cc
+
+-- what a group holds at i
+abbrev pub Seat : Course → (ℕ → ℕ) → (ℕ → ℕ → ℕ) → ℕ → State → List Did → List Place → Type 0
+Seat c top R i u log took = Member c top R i (core u) (part u) (took ++ u .confirmed) log
 
 pub record Holding (c : Course) (top : ℕ → ℕ) (R : ℕ → ℕ → ℕ) (g : Group) : Type 0 where
   pub fair : Fair c top R
   pub own : (i : ℕ) → Index (c .n) i → R i i ≡ top i
-  pub members : (i : ℕ) → Index (c .n) i → Member c top R i (g .unit i) (g .log i) (g .took i)
+  pub members : (i : ℕ) → Index (c .n) i → Seat c top R i (g .unit i) (g .log i) (g .took i)
   pub air : All (Fine c top) (g .air)
 
 abbrev pub Good : Course → Group → Type 0
@@ -79,8 +87,8 @@ module _ (g : Group) (i : ℕ) (s : State) (frames : List (List ℕ)) (deeds : L
   abbrev next : Group
   next = updated g i s frames deeds places
 
-  pub updated-all : (P : ℕ → State → List Did → List Place → Type 0) → P i s (deeds ++ g .log i) (g .took i ++ places) → ((l : ℕ) → l ≢ i → P l (g .unit l) (g .log l) (g .took l))
-      → (l : ℕ) → P l (next .unit l) (next .log l) (next .took l)
+  pub updated-all : (P : ℕ → State → List Did → List Place → Type 0) → P i s (deeds ++ g .log i) (g .took i ++ places)
+      → ((l : ℕ) → l ≢ i → P l (g .unit l) (g .log l) (g .took l)) → (l : ℕ) → P l (next .unit l) (next .log l) (next .took l)
   unfolding updated upd
   updated-all P h o l = go (eq? l i)
     where
@@ -93,8 +101,8 @@ module _ (g : Group) (i : ℕ) (s : State) (frames : List (List ℕ)) (deeds : L
       → c .first i + length (sentIn (deeds ++ g .log i)) ≡ top i → ((l : ℕ) → l ≢ i → topOf c g l ≡ top l)
       → s .req ≡ R i → ((l : ℕ) → l ≢ i → reqs g l ≡ R l)
       → Fair c top R → ((l : ℕ) → Index (c .n) l → R l l ≡ top l)
-      → Member c top R i s (deeds ++ g .log i) (g .took i ++ places)
-      → ((l : ℕ) → l ≢ i → Index (c .n) l → Member c top R l (g .unit l) (g .log l) (g .took l))
+      → Seat c top R i s (deeds ++ g .log i) (g .took i ++ places)
+      → ((l : ℕ) → l ≢ i → Index (c .n) l → Seat c top R l (g .unit l) (g .log l) (g .took l))
       → All (Fine c top) (g .air) → All (Fine c top) frames → Good c next
   unfolding updated
   good-updated c top R t ts r rs F own mine others air new =
@@ -104,11 +112,11 @@ module _ (g : Group) (i : ℕ) (s : State) (frames : List (List ℕ)) (deeds : L
       (record {
         fair = F;
         own = own;
-        members = updated-all (λ l u log took. Index (c .n) l → Member c top R l u log took) (λ x. mine) others;
+        members = updated-all (λ l u log took. Index (c .n) l → Seat c top R l u log took) (λ x. mine) others;
         air = all-append (Fine c top) (g .air) frames air new;
       })
 
-module _ (c : Course) (g : Group) (G : Good c g) (i : ℕ) (inn : Index (c .n) i) where
+module _ {c : Course} {g : Group} (G : Good c g) (i : ℕ) where
   abbrev top : ℕ → ℕ
   top = topOf c g
 
@@ -118,13 +126,13 @@ module _ (c : Course) (g : Group) (G : Good c g) (i : ℕ) (inn : Index (c .n) i
   -- ---- nothing is sent or accepted
 
   pub good-kept : (u : State) (frames : List (List ℕ)) (places : List Place) → u .req ≡ g .unit i .req
-      → Member c top R i u (g .log i) (g .took i ++ places) → All (Fine c top) frames → Good c (updated g i u frames [] places)
+      → Seat c top R i u (g .log i) (g .took i ++ places) → All (Fine c top) frames → Good c (updated g i u frames [] places)
   good-kept u frames places e M new =
       good-updated g i u frames [] places c top R refl (λ l d. refl) e (λ l d. refl) (G .fair) (G .own) M (λ l d. G .members l) (G .air) new
 
   -- ---- the next message of j is accepted
 
-  module _ (j : ℕ) (far : i ≢ j) (A : Next c top R i j) where
+  module _ {j : ℕ} (A : Next c top R i j) (far : i ≢ j) where
     abbrev p : Message
     p = c .msg j (R i j)
 
@@ -132,33 +140,37 @@ module _ (c : Course) (g : Group) (G : Good c g) (i : ℕ) (inn : Index (c .n) i
     heard-fair =
         record {
           limits = G .fair .limits;
-          numbers = numbers-accepted c top R i j inn A (G .fair .numbers);
+          numbers = numbers-accepted A (G .fair .numbers);
           spoken = G .fair .spoken;
-          closed = closed-accepted c top R i j inn A (G .fair .spoken) (G .fair .closed);
+          closed = closed-accepted A (G .fair .spoken) (G .fair .closed);
           window = G .fair .window;
           readable = G .fair .readable;
         }
 
     heard-own : (l : ℕ) → Index (c .n) l → grown R i j l l ≡ top l
-    unfolding grown bumped
+    unfolding grown
     heard-own =
-        upd-all R i (bumped (R i) j) (λ l f. Index (c .n) l → f l ≡ top l) (λ x. upd-other (R i) j (suc (R i j)) i far ∙ G .own i x) (λ l d x. G .own l x)
+        upd-all R i (bumped (R i) j) (λ l f. Index (c .n) l → f l ≡ top l) (λ x. bumped-other (R i) j i far ∙ G .own i x) (λ l d. G .own l)
+
+    mine : Seat c top R i (g .unit i) (g .log i) (g .took i)
+    mine = G .members i (A .index)
 
     pub good-heard : Good c (updated g i (Steps.accepted (g .unit i) p) [] (accepted p ∷ []) [])
     good-heard =
         good-updated g i (Steps.accepted (g .unit i) p) [] (accepted p ∷ []) [] c top (grown R i j) refl (λ l d. refl)
-        (member-req c top R (G .fair .numbers) (G .fair .spoken) (G .fair .closed) i j inn A (g .unit i) (g .log i) (g .took i) refl (G .members i inn))
+        (member-req (G .fair .numbers) (G .fair .spoken) (G .fair .closed) A (g .took i) (g .unit i) refl mine)
         (λ l d. sym (grown-other R i j l d))
         heard-fair heard-own
-        (subst (Member c top (grown R i j) i (Steps.accepted (g .unit i) p) (accepted p ∷ g .log i)) (sym (append-nil (g .took i)))
-        (member-accepted c top R (G .fair .numbers) (G .fair .spoken) (G .fair .closed) i j inn A (g .unit i) (g .log i) (g .took i) refl (G .members i inn) (accepted p) refl tt))
-        (λ l d ln. member-grown c top R l (g .unit l) (g .log l) (g .took l) (G .members l ln) i j)
+        (subst (Seat c top (grown R i j) i (Steps.accepted (g .unit i) p) (accepted p ∷ g .log i)) (sym (append-nil (g .took i)))
+        (member-accepted (G .fair .numbers) (G .fair .spoken) (G .fair .closed) A (g .took i) (g .unit i) refl mine (accepted p) refl tt))
+        (λ l d ln. member-grown (G .members l ln) i j)
         (G .air) tt
 
   -- ---- the next message of i is sent, and accepted by i
 
   module _ (N : Fresh c top R i) (room : top i < last) (near : (k : ℕ) → Index (c .n) k → top i < said c k (ackOf (c .msg i (top i)) k) i + c .w)
       (reads : decode (encode (message (c .msg i (top i)))) ≡ some (message (c .msg i (top i)))) where
+    -- REQ of the own index is the number
     abbrev m : Message
     m = c .msg i (R i i)
 
@@ -181,61 +193,65 @@ module _ (c : Course) (g : Group) (G : Good c g) (i : ℕ) (inn : Index (c .n) i
     written-fair =
         record {
           limits = written-limits;
-          numbers = numbers-written c top R i inn N (G .fair .numbers);
-          spoken = spoken-written c top R i inn N (G .fair .numbers) (G .fair .spoken);
-          closed = closed-written c top R i inn N (G .fair .numbers) (G .fair .closed);
+          numbers = numbers-written N (G .fair .numbers);
+          spoken = spoken-written N (G .fair .numbers) (G .fair .spoken);
+          closed = closed-written N (G .fair .closed);
           window = record {
             near = λ j s k h kn.
-                written-all c top R i inn N (G .fair .numbers) (λ j s. s < said c k (ackOf (c .msg j s) k) j + c .w) (near k kn) (λ j s b. G .fair .window .near j s k b kn) j s h;
+                written-all N (λ j s. s < said c k (ackOf (c .msg j s) k) j + c .w) (near k kn) (λ j s b. G .fair .window .near j s k b kn) j s h;
           };
           readable = record {
-            read = written-all c top R i inn N (G .fair .numbers) (λ j s. decode (encode (message (c .msg j s))) ≡ some (message (c .msg j s))) reads (G .fair .readable .read);
+            read = written-all N (λ j s. decode (encode (message (c .msg j s))) ≡ some (message (c .msg j s))) reads (G .fair .readable .read);
           };
         }
 
     A : Next c (bumped top i) R i i
     A =
         record {
-          sent = record { index = inn; low = G .fair .numbers .low i i inn inn; high = omega (arith, N .own, bumped-same top i) };
+          index = N .index;
+          sent = record { index = N .index; low = G .fair .numbers .low i i (N .index) (N .index); high = omega (arith, N .own, bumped-same top i) };
           known = λ k kn d. omega (arith, ap (λ (x : Message). ackOf x k) is, N .ack k kn);
         }
-
-    start : Member c (bumped top i) R i (numbered (g .unit i) m) (g .log i) (g .took i)
-    start = member-numbered c top R i (g .unit i) (g .log i) (g .took i) (G .members i inn) m is
 
     sent-fair : Fair c (bumped top i) (grown R i i)
     sent-fair =
         record {
           limits = written-fair .limits;
-          numbers = numbers-accepted c (bumped top i) R i i inn A (written-fair .numbers);
+          numbers = numbers-accepted A (written-fair .numbers);
           spoken = written-fair .spoken;
-          closed = closed-accepted c (bumped top i) R i i inn A (written-fair .spoken) (written-fair .closed);
+          closed = closed-accepted A (written-fair .spoken) (written-fair .closed);
           window = written-fair .window;
           readable = written-fair .readable;
         }
 
     sent-own : (l : ℕ) → Index (c .n) l → grown R i i l l ≡ bumped top i l
-    unfolding grown bumped
+    unfolding grown
     sent-own =
         upd-all R i (bumped (R i) i) (λ l f. Index (c .n) l → f l ≡ bumped top i l) (λ x. bumped-same (R i) i ∙ ap suc (N .own) ∙ sym (bumped-same top i))
-        (λ l d x. G .own l x ∙ sym (upd-other top i (suc (top i)) l d))
+        (λ l d x. G .own l x ∙ sym (bumped-other top i l d))
+
+    start : Seat c (bumped top i) R i (numbered (g .unit i) m) (g .log i) (g .took i)
+    unfolding numbered
+    start = member-numbered (g .unit i) (G .members i (N .index)) m is
+
+    tells : Tells c i m (encode (message m)) (g .log i)
+    tells =
+        tells-now (G .members i (N .index) .logs) m (ap (λ (x : Message). x .src) is ∙ N .src)
+        (λ k kn. ap (λ (x : Message). ackOf x k) is ∙ N .ack k kn)
 
     pub good-sent : Good c (updated g i (Steps.sent (g .unit i) m) (encode (message m) ∷ []) (sent m (encode (message m)) ∷ []) [])
-    unfolding numbered bumped
+    unfolding numbered
     good-sent =
         good-updated g i (Steps.sent (g .unit i) m) (encode (message m) ∷ []) (sent m (encode (message m)) ∷ []) [] c (bumped top i) (grown R i i)
-        (omega (arith, length-append (sentIn (g .log i)) (m ∷ []), bumped-same top i)) (λ l d. sym (upd-other top i (suc (top i)) l d))
+        (omega (arith, length-append (sentIn (g .log i)) (m ∷ []), bumped-same top i)) (λ l d. sym (bumped-other top i l d))
         (ap (λ (u : State). u .req) (sent-is (g .unit i) m)
-        ∙ member-req c (bumped top i) R (written-fair .numbers) (written-fair .spoken) (written-fair .closed) i i inn A (numbered (g .unit i) m) (g .log i) (g .took i) refl start)
+        ∙ member-req (written-fair .numbers) (written-fair .spoken) (written-fair .closed) A (g .took i) (numbered (g .unit i) m) refl start)
         (λ l d. sym (grown-other R i i l d))
         sent-fair sent-own
-        (subst₂ (λ (u : State) (l : List Place). Member c (bumped top i) (grown R i i) i u (sent m (encode (message m)) ∷ g .log i) l) (sym (sent-is (g .unit i) m)) (sym (append-nil (g .took i)))
-        (member-accepted c (bumped top i) R (written-fair .numbers) (written-fair .spoken) (written-fair .closed) i i inn A (numbered (g .unit i) m) (g .log i) (g .took i) refl start
+        (subst₂ (λ (u : State) (l : List Place). Seat c (bumped top i) (grown R i i) i u (sent m (encode (message m)) ∷ g .log i) l)
+        (sym (sent-is (g .unit i) m)) (sym (append-nil (g .took i)))
+        (member-accepted (written-fair .numbers) (written-fair .spoken) (written-fair .closed) A (g .took i) (numbered (g .unit i) m) refl start
         (sent m (encode (message m))) refl tells))
-        (λ l d ln. member-grown c (bumped top i) R l (g .unit l) (g .log l) (g .took l) (member-written c top R l (g .unit l) (g .log l) (g .took l) (G .members l ln) i d) i i)
-        (all-map (λ f h p e. of-bumped c top i p (h p e)) (g .air) (G .air)) (fine c (bumped top i) (written-fair .readable) m (of-message c (bumped top i) (written-fair .spoken) i (R i i) (A .sent) m refl), tt)
-      where
-        tells : Tells c i m (encode (message m)) (g .log i)
-        tells =
-            tells-now c top (R i) i m (g .log i) (G .members i inn .logs) (ap (λ (x : Message). x .src) is ∙ N .src)
-            (λ k kn. ap (λ (x : Message). ackOf x k) is ∙ N .ack k kn)
+        (λ l d ln. member-grown (member-written (G .members l ln) i d) i i)
+        (all-map (λ f h p e. of-bumped i (h p e)) (g .air) (G .air))
+        (frame-fine (written-fair .readable) (of-message (written-fair .spoken) (A .sent) refl), tt)

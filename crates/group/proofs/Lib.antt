@@ -4,6 +4,7 @@ pub mod Senders
 pub mod Order
 pub mod Course
 pub mod Numbers
+pub mod Growth
 pub mod Columns
 pub mod Lists
 pub mod Settle
@@ -21,3 +22,5 @@ pub mod Reach
 pub mod Theorem
 pub mod Scripts
 pub mod Talk
+pub mod Pieces
+pub mod Mistakes

@@ -14,10 +14,11 @@ use Rattle.rules.specs.Calls.{Check, Opened, openChecks, opening}
 use Rattle.rules.proofs.MapsLaws.{and-both, between-low, between-high, units-in, every-at}
 use Rattle.rules.proofs.CallsLaws.{Refused, now, later, Passed, decide-cases}
 use Rattle.group.specs.Runs.{Index, Did, Group, fresh}
-use Rattle.group.proofs.Course.{Course, said-first}
+use Rattle.group.proofs.Course.{Course, Sent, said-first}
 use Rattle.group.proofs.Numbers.{Numbers, Spoken, Closed}
 use Rattle.group.proofs.Columns.{column-first, says-first, row-le, row-glb}
 use Rattle.group.proofs.Lists.{part, Lists}
+use Rattle.group.proofs.Settle.{core}
 use Rattle.group.proofs.Members.{Member}
 use Rattle.group.proofs.Good.{topOf, reqs, Limits, Good}
 
@@ -67,13 +68,18 @@ module _ (c : Course) (opens : (i : ℕ) → Index (c .n) i → opening i (c .n)
   unfolding opened
   req-first i k inn kn = ap (λ (u : State). u .req k) (said-open i inn .unit) ∙ units-in (c .n) (c .first) k (kn .0) (kn .1)
 
+  -- nothing was sent
+  none : {j s : ℕ} → Sent c (topOf c start) j s → ⊥
+  unfolding fresh
+  none h = omega arith
+
   start-numbers : Numbers c (topOf c start) (reqs start)
   unfolding fresh
   start-numbers =
       record {
         low = λ i k inn kn. omega (arith, req-first i k inn kn);
         high = λ i k inn kn. omega (arith, req-first i k inn kn);
-        past = λ j s k h kn. absurd (omega (arith, h .low, h .high));
+        past = λ j s k h kn. absurd (none h);
       }
 
   module _ (i : ℕ) (inn : Index (c .n) i) where
@@ -91,8 +97,12 @@ module _ (c : Course) (opens : (i : ℕ) → Index (c .n) i → opening i (c .n)
 
     lowest : (k : ℕ) → Index (c .n) k → least (c .n) (unit .al k) ≡ c .first k
     lowest k kn =
-        omega (arith, row-le c (c .n) refl (unit .al k) k kn, rows k k kn kn .0,
-        row-glb c (c .n) refl (unit .al k) (c .first k) (omega (arith, inn .0, inn .1)) (λ j jn. omega (arith, rows k j kn jn .0)))
+        omega (
+          arith,
+          row-le refl (unit .al k) k kn,
+          rows k k kn kn .0,
+          row-glb refl (unit .al k) (c .first k) (omega (arith, inn .0, inn .1)) (λ j jn. omega (arith, rows k j kn jn .0)),
+        )
 
     start-lists : Lists c (topOf c start) (c .first) [] (part unit)
     unfolding opened from
@@ -109,8 +119,8 @@ module _ (c : Course) (opens : (i : ℕ) → Index (c .n) i → opening i (c .n)
           firm = tt;
         }
 
-    start-member : Member c (topOf c start) (reqs start) i unit [] []
-    unfolding opened fresh minAL
+    start-member : Member c (topOf c start) (reqs start) i (core unit) (part unit) [] []
+    unfolding opened fresh
     start-member =
         record {
           me = refl;
@@ -119,10 +129,10 @@ module _ (c : Course) (opens : (i : ℕ) → Index (c .n) i → opening i (c .n)
           seq = omega arith;
           tidy = record {
             size = refl;
-            columns = λ x xn. column-first c x (unit .req x) (λ k. unit .al k x) (next x xn) (λ k kn. rows k x kn xn .0) (topOf c start) (reqs start) start-numbers xn;
+            columns = λ x xn. column-first (next x xn) (λ k kn. rows k x kn xn .0) start-numbers xn;
             settled = record { pre = c .first; lists = start-lists; calm = λ k kn. omega (arith, lowest k kn) };
           };
-          told = record { told = λ x xn. says-first c x (unit .req x) (λ k. unit .al k x) (next x xn) (λ k kn. rows k x kn xn .0) };
+          told = record { told = λ x xn. says-first (next x xn) (λ k kn. rows k x kn xn .0) };
           kept = λ s low high. absurd (omega (arith, lowest i inn));
           logs = record { have = tt; full = λ k s kn low high. absurd (omega (arith, next k kn)); tell = tt };
         }
@@ -143,20 +153,20 @@ module _ (c : Course) (opens : (i : ℕ) → Index (c .n) i → opening i (c .n)
           };
           numbers = start-numbers;
           spoken = record {
-            src = λ j s h. absurd (omega arith);
-            seq = λ j s h. absurd (omega arith);
-            own = λ j s h. absurd (omega arith);
-            floor = λ j s k h kn. absurd (omega arith);
-            mono = λ j s t k h g st kn. absurd (omega arith);
+            src = λ j s h. absurd (none h);
+            seq = λ j s h. absurd (none h);
+            own = λ j s h. absurd (none h);
+            floor = λ j s k h kn. absurd (none h);
+            mono = λ j s t k h g st kn. absurd (none h);
           };
           closed = record {
             close = λ i j s k inn jn kn low h. absurd (omega (arith, req-first i j inn jn));
-            chain = λ l t j s k h jn kn low b. absurd (omega arith);
+            chain = λ l t j s k h jn kn low b. absurd (none h);
           };
-          window = record { near = λ j s k h kn. absurd (omega arith) };
-          readable = record { read = λ j s h. absurd (omega arith) };
+          window = record { near = λ j s k h kn. absurd (none h) };
+          readable = record { read = λ j s h. absurd (none h) };
         };
         own = λ i inn. omega (arith, req-first i i inn inn);
-        members = λ i inn. subst (λ (u : State). Member c (topOf c start) (reqs start) i u [] []) (sym (said-open i inn .unit)) (start-member i inn);
+        members = λ i inn. subst (λ (u : State). Member c (topOf c start) (reqs start) i (core u) (part u) (u .confirmed) []) (sym (said-open i inn .unit)) (start-member i inn);
         air = tt;
       }

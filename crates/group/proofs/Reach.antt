@@ -21,9 +21,9 @@ use Rattle.group.proofs.Course.{Course, Sent, ackOf, said, said-cases}
 use Rattle.group.proofs.Numbers.{Numbers, Spoken, Closed, said-all, said-mono}
 use Rattle.group.proofs.Columns.{row-le, row-glb}
 use Rattle.group.proofs.Lists.{Holds, Part, part, Lists}
-use Rattle.group.proofs.Settle.{Settled, first-le}
+use Rattle.group.proofs.Settle.{core, Settled, first-le}
 use Rattle.group.proofs.Tidy.{Tidy, Told}
-use Rattle.group.proofs.Logs.{Of, Log, tells-sent}
+use Rattle.group.proofs.Logs.{Of, Has, Log, tells-sent}
 use Rattle.group.proofs.Members.{Member}
 use Rattle.group.proofs.Good.{Window}
 use Rattle.group.proofs.Confirmed.{holds-content}
@@ -40,7 +40,7 @@ module _ (c : Course) (top : ℕ → ℕ) (R : ℕ → ℕ → ℕ) (H : Spoken 
   seen x xn =
       said-cases c x (T .settled .pre x) (λ f. p .seq < f (p .src) → p .seq < v .al (p .src) x)
       (λ e h. absurd (omega (arith, holds .sent .low)))
-      (λ s e low h. le-trans h (le-trans (said-all c top x (v .req x) xn has H s (p .src) low (accepted s e) (holds .sent .index)) (Z .columns x xn .reaches (p .src) (holds .sent .index))))
+      (λ s e low h. le-trans h (le-trans (said-all x xn H (v .req x) has s (p .src) low (accepted s e) (holds .sent .index)) (Z .columns x xn .reaches (p .src) (holds .sent .index))))
       (subst (λ y. p .seq < y) (T .settled .lists .pal (p .src) x (holds .sent .index) xn) firm)
     where
       firm : p .seq < u .pal (p .src) x
@@ -51,7 +51,7 @@ module _ (c : Course) (top : ℕ → ℕ) (R : ℕ → ℕ → ℕ) (H : Spoken 
 
       accepted : (s : ℕ) → T .settled .pre x ≡ suc s → s < v .req x
       accepted s e =
-          omega (arith, T .settled .lists .early x xn, row-le c (u .n) (T .size) (u .al x) l ln, T .columns l ln .within x xn, ap (λ (f : ℕ → ℕ). f x) req)
+          omega (arith, T .settled .lists .early x xn, row-le (T .size) (u .al x) l ln, T .columns l ln .within x xn, ap (λ (f : ℕ → ℕ). f x) req)
 
   pub preacked-too : Mem (inPlace p) (map inPlace (made ++ v .ordered))
   preacked-too =
@@ -59,7 +59,7 @@ module _ (c : Course) (top : ℕ → ℕ) (R : ℕ → ℕ → ℕ) (H : Spoken 
     where
       below : p .seq < Z .settled .pre (p .src)
       below =
-          le-trans (row-glb c (v .n) (Z .size) (v .al (p .src)) (suc (p .seq)) (le-trans (ln .0) (ln .1)) seen) (Z .settled .calm (p .src) (holds .sent .index))
+          le-trans (row-glb (Z .size) (v .al (p .src)) (suc (p .seq)) (le-trans (ln .0) (ln .1)) seen) (Z .settled .calm (p .src) (holds .sent .index))
 
       found : (q : Place) × (q .seq ≡ p .seq) × Mem q (from (p .src) (made ++ v .ordered))
       found = upward-find (c .first (p .src)) (from (p .src) (made ++ v .ordered)) (Z .settled .pre (p .src)) (p .seq) (Z .settled .lists .lane (p .src) (holds .sent .index)) (holds .sent .low) below
@@ -83,7 +83,7 @@ module _ (c : Course) (top : ℕ → ℕ) (R : ℕ → ℕ → ℕ) (H : Spoken 
   -- the last message of k accepted was sent when its sender knew no more of x than u does
   near : c .first k < u .req k → (x : ℕ) → Index (c .n) x → u .req k - c .w ≤ u .al k x
   near h x xn =
-      omega (arith, N .near k s x sent xn, W .told x xn .says k kn, said-mono c top H x (ackOf (c .msg k s) x) (u .req x) xn (expected x xn) known k kn)
+      omega (arith, N .near k s x sent xn, W .told x xn .says k kn, said-mono x xn H (ackOf (c .msg k s) x) (u .req x) (expected x xn) known k kn)
     where
       s : ℕ
       s = u .req k - 1
@@ -101,21 +101,22 @@ module _ (c : Course) (top : ℕ → ℕ) (R : ℕ → ℕ → ℕ) (H : Spoken 
       count = upward-length (S .pre k) (from k (u .waiting)) (u .req k) (S .lists .rest k kn)
 
       go : {t : Bool} → Lt? (c .first k) (u .req k) t → length (from k (u .waiting)) ≤ c .w
-      go (lt h) = omega (arith, count, S .calm k kn, row-glb c (u .n) size (u .al k) (u .req k - c .w) (le-trans (kn .0) (kn .1)) (near h))
-      go (ge h) = omega (arith, count, first-le c top (S .pre) done u (S .lists) k kn)
+      go (lt h) = omega (arith, count, S .calm k kn, row-glb size (u .al k) (u .req k - c .w) (le-trans (kn .0) (kn .1)) (near h))
+      go (ge h) = omega (arith, count, first-le (S .lists) k kn)
 
 -- ---- what unit i lacks, its sender j keeps
 
 module _ (c : Course) (top : ℕ → ℕ) (R : ℕ → ℕ → ℕ) (i j : ℕ) (inn : Index (c .n) i) (jn : Index (c .n) j) (log : List Did) (r : ℕ → ℕ) (row : r ≡ R i) (L : Log c top r i log)
-    (u : State) (mine : List Did) (took : List Place) (M : Member c top R j u mine took) where
+    (u : State) (mine : List Did) (took : List Place) (M : Member c top R j (core u) (part u) (took ++ u .confirmed) mine) where
   pub keeps : (m : Message) (f : List ℕ) → Mem (sent m f) mine → ¬ (Mem m (map about log)) → (isKept u (m .seq) ≡ true) × (u .kept (m .seq) ≡ f)
   unfolding isKept minAL
-  keeps m f h lacks =
-      (and-intro _ _ (le-leb _ _ (subst (λ x. minAL u x ≤ m .seq) (sym (M .me)) low)) (lt-ltb _ _ (subst (λ x. m .seq < x) (sym (M .seq)) high)),
-      M .kept (m .seq) low high ∙ ap (λ (x : Message). encode (message x)) (sym is) ∙ sym (by .1))
+  keeps m f h lacks = (
+    and-intro _ _ (le-leb _ _ (subst (λ x. minAL u x ≤ m .seq) (sym (M .me)) low)) (lt-ltb _ _ (subst (λ x. m .seq < x) (sym (M .seq)) high)),
+    M .kept (m .seq) low high ∙ ap (λ (x : Message). encode (message x)) (sym is) ∙ sym (by .1),
+  )
     where
       of : Of c top m
-      of = all-mem (λ e. Of c top (about e) × (about e .seq < u .req (about e .src))) (sent m f) mine h (M .logs .have) .0
+      of = all-mem (Has c top (u .req)) (sent m f) mine h (M .logs .have) .of
 
       by : (m .src ≡ j) × (f ≡ encode (message m))
       by = tells-sent c j m f mine (M .logs .tell) h
@@ -134,4 +135,4 @@ module _ (c : Course) (top : ℕ → ℕ) (R : ℕ → ℕ → ℕ) (i j : ℕ) 
           go (ge x) = x
 
       low : minAL u j ≤ m .seq
-      low = le-trans (row-le c (u .n) (M .tidy .size) (u .al j) i inn) (le-trans (M .tidy .columns i inn .within j jn) lacking)
+      low = le-trans (row-le (M .tidy .size) (u .al j) i inn) (le-trans (M .tidy .columns i inn .within j jn) lacking)

@@ -111,9 +111,10 @@ upward-left a (p ∷ l) r b h =
 pub upward-below : (a : ℕ) (l : List Place) (b : ℕ) → Upward a l b → All (λ p. (a ≤ p .seq) × (p .seq < b)) l
 upward-below a [] b h = tt
 upward-below a (p ∷ l) b h =
-    let e : suc a + length l ≡ b = upward-length (suc a) l b (h .1) in
-    ((omega arith, omega arith),
-    all-map (λ q (x : (suc a ≤ q .seq) × (q .seq < b)). omega arith) l (upward-below (suc a) l b (h .1)))
+    let e : suc a + length l ≡ b = upward-length (suc a) l b (h .1) in (
+      (omega arith, omega arith),
+      all-map (λ q (x : (suc a ≤ q .seq) × (q .seq < b)). omega arith) l (upward-below (suc a) l b (h .1)),
+    )
 
 pub upward-ahead : (a : ℕ) (l : List Place) (b : ℕ) (p q : Place) → Upward a l b → Ahead p q l → p .seq < q .seq
 upward-ahead a (z ∷ l) b p q h (here e m) =
@@ -127,6 +128,7 @@ upward-find a (p ∷ l) b x h low high = go (eq? a x) (λ y. upward-find (suc a)
   where
     Found : List Place → Type 0
     Found l = (q : Place) × (q .seq ≡ x) × Mem q l
+
     go : {t : Bool} → Eq? a x t → (suc a ≤ x → Found l) → Found (p ∷ l)
     go (same e) f = (p, omega (arith, h .0), List·Memᴰ·head refl)
     go (other d) f = let r = f (omega arith) in (r .0, r .1, List·Memᴰ·tail (r .2))

@@ -1,7 +1,7 @@
 -- One acceptance, own or heard: the lists keep what they keep, and afterwards nothing is due.
 use mathlib.Core.List.{List, [], _∷_, _++_, append-assoc}
-use mathlib.Core.Path.{_≡_, refl, sym, ap, subst, _∙_}
-use Prim.Native.Nat.{ℕ, zero, suc, _+_, _≤_, _<_}
+use mathlib.Core.Path.{_≡_, refl, sym, ap, subst}
+use Prim.Native.Nat.{ℕ, suc, _≤_, _<_}
 use native.Mathlib.Omega.{arith}
 use native.Mathlib.Nat.{le-trans}
 use Rattle.rules.specs.Maps.{at, upd, least}
@@ -30,7 +30,8 @@ pub record Core : Type 0 where
   pub kept : ℕ → List ℕ
 
 abbrev pub core : State → Core
-core u = record { me = u .me; n = u .n; w = u .w; cid = u .cid; seq = u .seq; req = u .req; al = u .al; kept = u .kept }
+core u =
+    record { me = u .me; n = u .n; w = u .w; cid = u .cid; seq = u .seq; req = u .req; al = u .al; kept = u .kept }
 
 -- what settling asks of it
 pub record Knows (c : Course) (top : ℕ → ℕ) (u : Core) : Type 0 where
@@ -45,13 +46,15 @@ pub record Settled (c : Course) (top : ℕ → ℕ) (done : List Place) (u : Par
   pub lists : Lists c top pre done u
   pub calm : (j : ℕ) → Index (c .n) j → least (u .n) (u .al j) ≤ pre j
 
-pub first-le : (c : Course) (top : ℕ → ℕ) (pre : ℕ → ℕ) (done : List Place) (u : Part) → Lists c top pre done u → (j : ℕ) → Index (c .n) j → c .first j ≤ pre j
-first-le c top pre done u L j jn = omega (arith, upward-length (c .first j) (from j (done ++ u .ordered)) (pre j) (L .lane j jn))
+module _ {c : Course} {top pre : ℕ → ℕ} {done : List Place} {u : Part} (L : Lists c top pre done u) (j : ℕ) (jn : Index (c .n) j) where
+  pub first-le : c .first j ≤ pre j
+  first-le = omega (arith, upward-length (c .first j) (from j (done ++ u .ordered)) (pre j) (L .lane j jn))
 
-pub pre-le : (c : Course) (top : ℕ → ℕ) (pre : ℕ → ℕ) (done : List Place) (u : Part) → Lists c top pre done u → (j : ℕ) → Index (c .n) j → pre j ≤ u .req j
-pre-le c top pre done u L j jn = omega (arith, upward-length (pre j) (from j (u .waiting)) (u .req j) (L .rest j jn))
+  pub pre-le : pre j ≤ u .req j
+  pre-le = omega (arith, upward-length (pre j) (from j (u .waiting)) (u .req j) (L .rest j jn))
 
-module _ (c : Course) (top : ℕ → ℕ) (R : ℕ → ℕ → ℕ) (H : Spoken c top) (C : Closed c top R) (old : List Place) (start : State) (K : Knows c top (core start)) where
+module _ {c : Course} {top : ℕ → ℕ} {R : ℕ → ℕ → ℕ} (H : Spoken c top) (C : Closed c top R) (old : List Place) (start : State)
+    (K : Knows c top (core start)) where
   knows : (u : State) → core u ≡ core start → Knows c top (core u)
   knows u e = subst (Knows c top) (sym e) K
 
@@ -69,7 +72,7 @@ module _ (c : Course) (top : ℕ → ℕ) (R : ℕ → ℕ → ℕ) (H : Spoken 
         alike = W .alike;
         pre = upd (W .pre) (p .src) (suc (p .seq));
         lists =
-            preacked-lists c top R H C (W .pre) (old ++ u .confirmed) u (W .lists) p ps (subst (λ k. from k (u .waiting) ≡ p ∷ ps) (sym (due .src)) (due .oldest))
+            preacked-lists H C u (W .lists) p ps (subst (λ k. from k (u .waiting) ≡ p ∷ ps) (sym (due .src)) (due .oldest))
             (subst (λ k. p .seq < minAL u k) (sym (due .src)) (due .early));
       }
 
@@ -83,7 +86,8 @@ module _ (c : Course) (top : ℕ → ℕ) (R : ℕ → ℕ → ℕ) (H : Spoken 
         calm = λ j jn. over j jn (from j (u .waiting)) (W .lists .rest j jn) (stopped j (jn .0) (omega (arith, K .size)) .late);
       }
     where
-      over : (j : ℕ) → Index (c .n) j → (l : List Place) → Upward (W .pre j) l (u .req j) → ((p : Place) (ps : List Place) → l ≡ p ∷ ps → minAL u j ≤ p .seq) → minAL u j ≤ W .pre j
+      over : (j : ℕ) → Index (c .n) j → (l : List Place) → Upward (W .pre j) l (u .req j)
+          → ((p : Place) (ps : List Place) → l ≡ p ∷ ps → minAL u j ≤ p .seq) → minAL u j ≤ W .pre j
       over j jn [] h f = omega (arith, knows u (W .alike) .low j jn)
       over j jn (p ∷ ps) h f = omega (arith, h .0, f p ps refl)
 
@@ -94,23 +98,24 @@ module _ (c : Course) (top : ℕ → ℕ) (R : ℕ → ℕ → ℕ) (H : Spoken 
     pub settled : Settled c top (old ++ u .confirmed) (part u)
 
   -- all that precedes a message ready to be confirmed is pre-acknowledged
-  ready-over : (u : State) → Knows c top (core u) → (done : List Place) (S : Settled c top done (part u)) (p : Place) → Holds c top p
+  ready-over : (u : State) → Knows c top (core u) → {done : List Place} (S : Settled c top done (part u)) (p : Place) → Holds c top p
       → ((j : ℕ) → Index (c .n) j → p .seq < u .pal (p .src) j) → (k : ℕ) → Index (c .n) k → at (p .ack) k ≤ S .pre k
-  ready-over u K done S p h f k kn =
-      le-trans (row-glb c (u .n) (K .size) (u .al k) (at (p .ack) k) (le-trans (kn .0) (kn .1)) known) (S .calm k kn)
+  ready-over u K S p h f k kn = le-trans (row-glb (K .size) (u .al k) (at (p .ack) k) (le-trans (kn .0) (kn .1)) known) (S .calm k kn)
     where
-      below : (j : ℕ) → Index (c .n) j → S .pre j ≤ u .req j
-      below = pre-le c top (S .pre) done (part u) (S .lists)
-
       known : (j : ℕ) → Index (c .n) j → at (p .ack) k ≤ u .al k j
       known j jn =
-          omega (arith, ap (λ (l : List ℕ). at l k) (h .ack), K .reaches j k jn kn,
-          said-mono c top H j (S .pre j) (u .req j) jn (K .high j jn) (below j jn) k kn,
-          said-closed c top j (S .pre j) jn (le-trans (below j jn) (K .high j jn)) R C (p .src) (p .seq) k (h .sent .index) kn (h .sent .low)
-          (omega (arith, f j jn, S .lists .pal (p .src) j (h .sent .index) jn)))
+          let below = pre-le (S .lists) j jn in
+          omega (
+            arith,
+            ap (λ (l : List ℕ). at l k) (h .ack),
+            K .reaches j k jn kn,
+            said-mono j jn H (S .pre j) (u .req j) (K .high j jn) below k kn,
+            said-closed j jn C (S .pre j) (le-trans below (K .high j jn)) (p .src) (p .seq) k (h .sent .index) kn (h .sent .low)
+                (omega (arith, f j jn, S .lists .pal (p .src) j (h .sent .index) jn)),
+          )
 
   confirming : (u : State) (p : Place) (ps : List Place) → Confirming u → Ready u p ps → Confirming (moved u p)
-  unfolding moved minAL minPAL
+  unfolding moved minPAL
   confirming u p ps W ready =
       record {
         alike = W .alike;
@@ -118,34 +123,33 @@ module _ (c : Course) (top : ℕ → ℕ) (R : ℕ → ℕ → ℕ) (H : Spoken 
             subst (λ (l : List Place). Settled c top l (part (moved u p))) (append-assoc old (u .confirmed) (p ∷ []))
             (record {
               pre = W .settled .pre;
-              lists = moved-lists c top R H C (W .settled .pre) (old ++ u .confirmed) u (W .settled .lists) p ps (ready .head) over firm;
+              lists = moved-lists u (W .settled .lists) p ps (ready .head) (ready-over u (knows u (W .alike)) (W .settled) p holds firm) firm;
               calm = W .settled .calm;
             });
       }
     where
       holds : Holds c top p
-      holds = subst (All (Holds c top)) (ready .head) (all-right (Holds c top) (old ++ u .confirmed) (u .ordered) (W .settled .lists .holds)) .0
+      holds =
+          subst (All (Holds c top)) (ready .head)
+          (all-right (Holds c top) (old ++ u .confirmed) (u .ordered) (W .settled .lists .holds)) .0
 
       firm : (j : ℕ) → Index (c .n) j → p .seq < u .pal (p .src) j
       firm j jn = le-trans (ready .early) (least-le (u .n) (u .pal (p .src)) j (jn .0) (omega (arith, knows u (W .alike) .size)))
 
-      over : (k : ℕ) → Index (c .n) k → at (p .ack) k ≤ W .settled .pre k
-      over = ready-over u (knows u (W .alike)) (old ++ u .confirmed) (W .settled) p holds firm
-
   -- ---- both
 
-  pub settling : (pre : ℕ → ℕ) → Lists c top pre (old ++ start .confirmed) (part start) → Confirming (confirm (preackTo (start .n) start))
-  settling pre L = confirm-all Confirming confirming (preackTo (start .n) start) (record { alike = out .0 .alike; settled = all-over (preackTo (start .n) start) (out .0) (out .1) })
+  settling : {pre : ℕ → ℕ} → Lists c top pre (old ++ start .confirmed) (part start) → Confirming (confirm (preackTo (start .n) start))
+  settling {pre} L =
+      confirm-all Confirming confirming (preackTo (start .n) start)
+      (record { alike = out .0 .alike; settled = all-over (preackTo (start .n) start) (out .0) (out .1) })
     where
       out : Preacking (preackTo (start .n) start) × ((j : ℕ) → 1 ≤ j → j ≤ start .n → Stopped j (preackTo (start .n) start))
       out = preackTo-all Preacking preacking (start .n) start (record { alike = refl; pre = pre; lists = L })
 
--- p is accepted
-pub accepted-settled : (c : Course) (top : ℕ → ℕ) (R : ℕ → ℕ → ℕ) → Spoken c top → Closed c top R → (old : List Place) (u : State) (p : Message)
-    → Settled c top (old ++ u .confirmed) (part u) → Holds c top (placed u p) → u .req (p .src) ≡ p .seq → ((k : ℕ) → Index (c .n) k → minAL u k ≤ minAL (stored u p) k)
-    → Knows c top (core (stored u p))
-    → (core (accepted u p) ≡ core (stored u p)) × Settled c top (old ++ accepted u p .confirmed) (part (accepted u p))
+-- p is accepted: beside PAL and the lists the unit is as storing left it
+pub accepted-settled : {c : Course} {top : ℕ → ℕ} {R : ℕ → ℕ → ℕ} (H : Spoken c top) (C : Closed c top R) (old : List Place) (u : State) (p : Message)
+    → Settled c top (old ++ u .confirmed) (part u) → Holds c top (placed u p) → u .req (p .src) ≡ p .seq
+    → ((k : ℕ) → Index (c .n) k → minAL u k ≤ minAL (stored u p) k) → (K : Knows c top (core (stored u p)))
+    → Confirming H C old (stored u p) K (accepted u p)
 unfolding accepted stored
-accepted-settled c top R H C old u p S h e up K =
-    let out = settling c top R H C old (stored u p) K (S .pre) (stored-lists c top R H C (S .pre) (old ++ u .confirmed) u (S .lists) p h e up) in
-    (out .alike, out .settled)
+accepted-settled H C old u p S h e up K = settling H C old (stored u p) K (stored-lists u (S .lists) p h e up)

@@ -1,46 +1,31 @@
 -- Frames of a run: what a unit sends is lawful, so its frame says it; a request says no message.
-use mathlib.Core.Bool.{Bool, true, false, _&&_}
-use mathlib.Core.List.{List, [], _∷_}
-use mathlib.Core.Option.{Option, none, some}
-use mathlib.Core.Path.{_≡_, refl, sym, ap, subst, _∙_}
-use Prim.Native.Nat.{ℕ, zero, suc, _+_, _-_, _*_, _≤_, _<_}
+use mathlib.Core.List.{List}
+use mathlib.Core.Option.{Option, some}
+use mathlib.Core.Path.{_≡_, sym, ap, subst, _∙_}
+use Prim.Native.Nat.{ℕ, _+_, _*_, _≤_, _<_}
 use native.Mathlib.Omega.{arith}
-use native.Mathlib.Nat.{le-trans, mul-le-mul}
-use lib.ListN.{length, getD}
+use native.Mathlib.Nat.{mul-le-mul}
+use lib.ListN.{length}
 use Rattle.rules.specs.Maps.{listed}
-use lib.Dec.{eqb}
-use Rattle.rules.specs.Fields.{table, tagsOf, fits, numbers}
-use Rattle.rules.specs.Message.{Message, Request, Said, message, request, last, edition, kindOf, inLimits, one, encode, decode, asRequest, when, readAs, orElse}
+use Rattle.rules.specs.Message.{Message, Request, Said, message, request, last, kindOf, asRequest, readAs, orElse, encode, decode}
 use Rattle.rules.specs.Lawful.{Bytes, LawfulMessage}
-use Rattle.rules.specs.State.{State, taken, free}
+use Rattle.rules.specs.State.{State, free}
 use Rattle.rules.specs.Steps.{outgoing}
 use Rattle.rules.proofs.MapsLaws.{length-listed, getD-listed}
 use Rattle.rules.proofs.BytesLaws.{each-intro}
-use Rattle.rules.proofs.MessageLaws.{decode-encode, request-no-message}
+use Rattle.rules.proofs.MessageLaws.{request-no-message, read}
 use Rattle.group.specs.Runs.{Index}
 use Rattle.group.proofs.Course.{Course}
-use Rattle.group.proofs.Logs.{Of}
 use Rattle.group.proofs.Good.{Fine}
-
--- ---- a request
-
-when-request : (t : Bool) (v : List (List ℕ)) (p : Message) → when t (asRequest v) ≡ some (message p) → ⊥
-when-request true v p e = let z : _≡_ {A = ℕ} 2 1 = ap (λ (o : Option Said). elim o [ none ↦ 0 | some x ↦ kindOf x ]) e in omega arith
-when-request false v p e = let z : _≡_ {A = ℕ} 0 1 = ap (λ (o : Option Said). elim o [ none ↦ 0 | some x ↦ kindOf x ]) e in omega arith
-
-readAs-request : (l : List ℕ) (p : Message) → readAs 2 asRequest l ≡ some (message p) → ⊥
-unfolding readAs
-readAs-request l p e =
-    let v = numbers table (tagsOf table 2) l in
-    when-request (fits table (tagsOf table 2) l && eqb (one v 0) edition && eqb (one v 1) 2 && inLimits (asRequest v)) v p e
 
 pub request-fine : (c : Course) (top : ℕ → ℕ) (r : Request) → Fine c top (encode (request r))
 unfolding decode
 request-fine c top r p e =
-    absurd (readAs-request (encode (request r)) p (sym (ap (λ (o : Option Said). orElse o (readAs 2 asRequest (encode (request r)))) (request-no-message r)) ∙ e))
+    let second = ap (λ (o : Option Said). orElse o (readAs 2 asRequest (encode (request r)))) (request-no-message r) in
+    let kind : _≡_ {A = ℕ} 2 1 = ap kindOf (read 2 asRequest (encode (request r)) (message p) (sym second ∙ e) .same) in
+    absurd (omega arith)
 
--- ---- a message
-
+-- where the unit's numbers are in their ranges
 pub outgoing-lawful : (s : State) (d : List ℕ) → 2 ≤ s .n → s .n ≤ 8 → s .w ≤ 4 → s .cid ≤ last → s .me < 256 → 1 ≤ s .seq → s .seq < last
     → ((k : ℕ) → Index (s .n) k → (1 ≤ s .req k) × (s .req k ≤ last)) → length d ≤ 48 → Bytes d → LawfulMessage (outgoing s d)
 unfolding outgoing free

@@ -21,7 +21,7 @@ use Rattle.group.proofs.Growth.{bumped, bumped-same, bumped-other, grow
 use Rattle.group.proofs.Lists.{Part, part}
 use Rattle.group.proofs.Settle.{Core, core}
 use Rattle.group.proofs.Logs.{Of, of-message, of-bumped, Tells, tells-now}
-use Rattle.group.proofs.Members.{Member, member-written, member-grown, numbered, sent-is, member-numbered, member-req, member-accepted}
+use Rattle.group.proofs.Members.{Member, member-written, member-grown, member-keeping, member-req, member-accepted}
 
 abbrev pub topOf : Course → Group → ℕ → ℕ
 topOf c g j = c .first j + length (sentIn (g .log j))
@@ -230,9 +230,8 @@ module _ {c : Course} {g : Group} (G : Good c g) (i : ℕ) where
         upd-all R i (bumped (R i) i) (λ l f. Index (c .n) l → f l ≡ bumped top i l) (λ x. bumped-same (R i) i ∙ ap suc (N .own) ∙ sym (bumped-same top i))
         (λ l d x. G .own l x ∙ sym (bumped-other top i l d))
 
-    start : Seat c (bumped top i) R i (numbered (g .unit i) m) (g .log i) (g .took i)
-    unfolding numbered
-    start = member-numbered (g .unit i) (G .members i (N .index)) m is
+    start : Seat c (bumped top i) R i (Steps.keeping (g .unit i) m) (g .log i) (g .took i)
+    start = member-keeping (g .unit i) (G .members i (N .index)) m is
 
     tells : Tells c i m (encode (message m)) (g .log i)
     tells =
@@ -240,17 +239,15 @@ module _ {c : Course} {g : Group} (G : Good c g) (i : ℕ) where
         (λ k kn. ap (λ (x : Message). ackOf x k) is ∙ N .ack k kn)
 
     pub good-sent : Good c (updated g i (Steps.sent (g .unit i) m) (encode (message m) ∷ []) (sent m (encode (message m)) ∷ []) [])
-    unfolding numbered
+    unfolding Steps.sent
     good-sent =
         good-updated g i (Steps.sent (g .unit i) m) (encode (message m) ∷ []) (sent m (encode (message m)) ∷ []) [] c (bumped top i) (grown R i i)
         (omega (arith, length-append (sentIn (g .log i)) (m ∷ []), bumped-same top i)) (λ l d. sym (bumped-other top i l d))
-        (ap (λ (u : State). u .req) (sent-is (g .unit i) m)
-        ∙ member-req (written-fair .numbers) (written-fair .spoken) (written-fair .closed) A (g .took i) (numbered (g .unit i) m) refl start)
+        (member-req (written-fair .numbers) (written-fair .spoken) (written-fair .closed) A (g .took i) (Steps.keeping (g .unit i) m) refl start)
         (λ l d. sym (grown-other R i i l d))
         sent-fair sent-own
-        (subst₂ (λ (u : State) (l : List Place). Seat c (bumped top i) (grown R i i) i u (sent m (encode (message m)) ∷ g .log i) l)
-        (sym (sent-is (g .unit i) m)) (sym (append-nil (g .took i)))
-        (member-accepted (written-fair .numbers) (written-fair .spoken) (written-fair .closed) A (g .took i) (numbered (g .unit i) m) refl start
+        (subst (Seat c (bumped top i) (grown R i i) i (Steps.sent (g .unit i) m) (sent m (encode (message m)) ∷ g .log i)) (sym (append-nil (g .took i)))
+        (member-accepted (written-fair .numbers) (written-fair .spoken) (written-fair .closed) A (g .took i) (Steps.keeping (g .unit i) m) refl start
         (sent m (encode (message m))) refl tells))
         (λ l d ln. member-grown (member-written (G .members l ln) i d) i i)
         (all-map (λ f h p e. of-bumped i (h p e)) (g .air) (G .air))

@@ -1,7 +1,7 @@
 -- One unit with its log and all that it has confirmed: when another writes or accepts, when it writes, and when it accepts.
 use mathlib.Core.Logic.{_≢_}
 use mathlib.Core.List.{List, [], _∷_, _++_}
-use mathlib.Core.Path.{_≡_, refl, sym, ap, subst, _∙_}
+use mathlib.Core.Path.{_≡_, sym, ap, subst, _∙_}
 use Prim.Native.Nat.{ℕ, suc, _≤_, _<_}
 use native.Mathlib.Omega.{arith}
 use native.Mathlib.Nat.{le-trans}
@@ -9,7 +9,7 @@ use borrow.Author.Tests.{le-leb}
 use Rattle.rules.specs.Maps.{upd, least}
 use Rattle.rules.specs.Message.{Message, message, encode}
 use Rattle.rules.specs.State.{Place, State, minAL}
-use Rattle.rules.specs.Steps.{stored, accepted, sent}
+use Rattle.rules.specs.Steps.{stored, keeping, accepted}
 use Rattle.rules.proofs.MapsLaws.{upd-all}
 use Rattle.group.specs.Runs.{Index, Did}
 use Rattle.group.specs.Causality.{about}
@@ -63,34 +63,10 @@ module _ {c : Course} {top : ℕ → ℕ} {R : ℕ → ℕ → ℕ} {l : ℕ} {k
 
 -- ---- it writes m: the number is used and the frame kept; then m is accepted
 
-unfoldable pub numbered : State → Message → State
-numbered u m =
-    record {
-      me = u .me;
-      n = u .n;
-      w = u .w;
-      cid = u .cid;
-      seq = suc (u .seq);
-      req = u .req;
-      al = u .al;
-      pal = u .pal;
-      buf = u .buf;
-      heard = u .heard;
-      kept = upd (u .kept) (u .seq) (encode (message m));
-      waiting = u .waiting;
-      ordered = u .ordered;
-      confirmed = u .confirmed;
-    }
-
-pub sent-is : (u : State) (m : Message) → sent u m ≡ accepted (numbered u m) m
-unfolding sent numbered
-sent-is u m = refl
-
-pub member-numbered : {c : Course} {top : ℕ → ℕ} {R : ℕ → ℕ → ℕ} {i : ℕ} {done : List Place} {log : List Did} (u : State)
+pub member-keeping : {c : Course} {top : ℕ → ℕ} {R : ℕ → ℕ → ℕ} {i : ℕ} {done : List Place} {log : List Did} (u : State)
     → Member c top R i (core u) (part u) done log → (m : Message) → m ≡ c .msg i (top i)
-    → Member c (bumped top i) R i (core (numbered u m)) (part (numbered u m)) done log
-unfolding numbered
-member-numbered {c} {top} {i = i} u M m is =
+    → Member c (bumped top i) R i (core (keeping u m)) (part (keeping u m)) done log
+member-keeping {c} {top} {i = i} u M m is =
     record {
       me = M .me;
       w = M .w;

@@ -17,7 +17,6 @@ use Rattle.group.specs.Causality.{Ahead, about, sentIn, Cause, direct, c
 use Rattle.group.specs.Demand.{inMessage, inPlace, confirmedAt, InCausalOrder, PreackedByAll, FewWait, SenderKeeps}
 use Rattle.group.proofs.All.{ahead-getD}
 use Rattle.group.proofs.Course.{nothing}
-use Rattle.group.proofs.Members.{numbered}
 use Rattle.group.proofs.Scripts.{Line, _says_, _hears_, _asks_, _copies_, takes, play, fits, script-run, computing}
 use Rattle.group.proofs.Pieces as Pieces
 use Rattle.group.proofs.Pieces.{Pieces, pieces, lowest, stored, preacked, preackWhile, preackTo, confirmWhile, send, arriveData, call}
@@ -37,7 +36,7 @@ module _ (k : Pieces) (n w : ℕ) (script : List Line) where
 
 -- where a proof unfolds this, runs with open pieces compute too
 unfoldable all-computing : Unit {0}
-unfolding computing numbered stored preacked preackWhile preackTo confirmWhile Pieces.accepted send arriveData
+unfolding computing stored preacked preackWhile preackTo confirmWhile Pieces.accepted send arriveData
 all-computing = tt
 
 -- ---- the window W + 1

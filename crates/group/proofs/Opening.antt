@@ -1,66 +1,39 @@
 -- A group opened alike is in a good state.
-use mathlib.Core.Bool.{Bool, true, false, not, _&&_}
-use mathlib.Core.List.{List, [], _∷_, _++_}
+use mathlib.Core.List.{List, []}
 use mathlib.Core.Path.{_≡_, refl, sym, ap, subst, _∙_}
-use Prim.Native.Nat.{ℕ, zero, suc, _+_, _≤_, _<_}
+use Prim.Native.Nat.{ℕ, _≤_}
 use native.Mathlib.Omega.{arith}
-use lib.Dec.{leb}
-use borrow.Author.Tests.{leb-true, not-false}
-use Rattle.rules.specs.Maps.{between, every, units, least}
-use Rattle.rules.specs.Message.{Message, last}
-use Rattle.rules.specs.State.{Place, State, minAL, from, opened, closed}
-use Rattle.rules.specs.Sound.{rangesFit}
-use Rattle.rules.specs.Calls.{Check, Opened, openChecks, opening}
-use Rattle.rules.proofs.MapsLaws.{and-both, between-low, between-high, units-in, every-at}
-use Rattle.rules.proofs.CallsLaws.{Refused, now, later, Passed, decide-cases}
-use Rattle.group.specs.Runs.{Index, Did, Group, fresh}
+use native.Mathlib.Nat.{le-trans}
+use Rattle.rules.specs.Maps.{least}
+use Rattle.rules.specs.State.{State, from, opened}
+use Rattle.rules.specs.Calls.{Opened, opening}
+use Rattle.rules.proofs.MapsLaws.{units-in}
+use Rattle.rules.proofs.CallCases.{open-cases}
+use Rattle.rules.proofs.OpeningLaws.{Opens, passed-opens}
+use Rattle.group.specs.Runs.{Index, Group, fresh}
 use Rattle.group.proofs.Course.{Course, Sent, said-first}
-use Rattle.group.proofs.Numbers.{Numbers, Spoken, Closed}
+use Rattle.group.proofs.Numbers.{Numbers}
 use Rattle.group.proofs.Columns.{column-first, says-first, row-le, row-glb}
 use Rattle.group.proofs.Lists.{part, Lists}
 use Rattle.group.proofs.Settle.{core}
 use Rattle.group.proofs.Members.{Member}
-use Rattle.group.proofs.Good.{topOf, reqs, Limits, Good}
+use Rattle.group.proofs.Good.{topOf, reqs, Good}
 
--- what answer 0 to an opening says
-pub record Opens (i n w cid : ℕ) (first : ℕ → ℕ) (u : State) : Type 0 where
+-- what answer 0 to an opening says of the unit u
+record Opening (i n w cid : ℕ) (first : ℕ → ℕ) (u : State) : Type 0 where
+  pub opens : Opens i n w cid first
   pub unit : u ≡ opened i n w cid first
-  pub some : 2 ≤ n
-  pub few : n ≤ 8
-  pub narrow : w ≤ 4
-  pub short : cid ≤ last
-  pub firsts : (k : ℕ) → Index n k → (1 ≤ first k) × (first k ≤ last)
 
-pub open-says : (i n w cid : ℕ) (first : ℕ → ℕ) → opening i n w cid first .answer ≡ 0 → Opens i n w cid first (opening i n w cid first .unit)
-unfolding opening openChecks rangesFit
+open-says : (i n w cid : ℕ) (first : ℕ → ℕ) → opening i n w cid first .answer ≡ 0 → Opening i n w cid first (opening i n w cid first .unit)
 open-says i n w cid first =
-    decide-cases (λ (o : Opened). o .answer ≡ 0 → Opens i n w cid first (o .unit)) _ _ (openChecks i n w cid first) refused (λ p z. passed p)
-  where
-    refused : (a : ℕ) → Refused a (openChecks i n w cid first) → a ≡ 0 → Opens i n w cid first closed
-    refused a (now h e) z = absurd (omega arith)
-
-    passed : Passed (openChecks i n w cid first) → Opens i n w cid first (opened i n w cid first)
-    passed p =
-        let all = and-both _ _ (not-false _ (p .0)) in
-        let front = and-both _ _ (all .0) in
-        let ranges = and-both _ _ (front .0) in
-        let sizes = and-both _ _ (ranges .0) in
-        record {
-          unit = refl;
-          some = between-low 2 8 n (sizes .0);
-          few = between-high 2 8 n (sizes .0);
-          narrow = between-high 2 4 w (sizes .1);
-          short = leb-true cid last (front .1);
-          firsts = λ k kn.
-              let h = every-at 1 n (λ k. between 1 last (first k)) (all .1) k (kn .0) (omega arith) in
-              (between-low 1 last (first k) h, between-high 1 last (first k) h);
-        }
+    open-cases (λ (o : Opened). o .answer ≡ 0 → Opening i n w cid first (o .unit)) i n w cid first (λ e. absurd (omega arith))
+    (λ p e. record { opens = passed-opens i n w cid first p; unit = refl })
 
 module _ (c : Course) (opens : (i : ℕ) → Index (c .n) i → opening i (c .n) (c .w) (c .cid) (c .first) .answer ≡ 0) where
   abbrev start : Group
   start = fresh (c .n) (c .w) (c .cid) (c .first)
 
-  said-open : (i : ℕ) (inn : Index (c .n) i) → Opens i (c .n) (c .w) (c .cid) (c .first) (start .unit i)
+  said-open : (i : ℕ) (inn : Index (c .n) i) → Opening i (c .n) (c .w) (c .cid) (c .first) (start .unit i)
   unfolding fresh
   said-open i inn = open-says i (c .n) (c .w) (c .cid) (c .first) (opens i inn)
 
@@ -101,7 +74,7 @@ module _ (c : Course) (opens : (i : ℕ) → Index (c .n) i → opening i (c .n)
           arith,
           row-le refl (unit .al k) k kn,
           rows k k kn kn .0,
-          row-glb refl (unit .al k) (c .first k) (omega (arith, inn .0, inn .1)) (λ j jn. omega (arith, rows k j kn jn .0)),
+          row-glb refl (unit .al k) (c .first k) (le-trans (inn .0) (inn .1)) (λ j jn. omega (arith, rows k j kn jn .0)),
         )
 
     start-lists : Lists c (topOf c start) (c .first) [] (part unit)
@@ -119,7 +92,7 @@ module _ (c : Course) (opens : (i : ℕ) → Index (c .n) i → opening i (c .n)
           firm = tt;
         }
 
-    start-member : Member c (topOf c start) (reqs start) i (core unit) (part unit) [] []
+    start-member : Member c (topOf c start) (reqs start) i (core unit) (part unit) (unit .confirmed) []
     unfolding opened fresh
     start-member =
         record {
@@ -144,12 +117,12 @@ module _ (c : Course) (opens : (i : ℕ) → Index (c .n) i → opening i (c .n)
       record {
         fair = record {
           limits = record {
-            some = said-open 1 one .some;
-            few = said-open 1 one .few;
-            narrow = said-open 1 one .narrow;
-            cid = said-open 1 one .short;
-            start = λ k kn. said-open 1 one .firsts k kn .0;
-            end = λ k kn. omega (arith, said-open 1 one .firsts k kn .1);
+            some = O .ranges .n-low;
+            few = O .ranges .n-high;
+            narrow = O .ranges .w-high;
+            cid = O .group;
+            start = λ k kn. O .low k (kn .0) (kn .1);
+            end = λ k kn. omega (arith, O .high k (kn .0) (kn .1));
           };
           numbers = start-numbers;
           spoken = record {
@@ -170,3 +143,6 @@ module _ (c : Course) (opens : (i : ℕ) → Index (c .n) i → opening i (c .n)
         members = λ i inn. subst (λ (u : State). Member c (topOf c start) (reqs start) i (core u) (part u) (u .confirmed) []) (sym (said-open i inn .unit)) (start-member i inn);
         air = tt;
       }
+    where
+      O : Opens 1 (c .n) (c .w) (c .cid) (c .first)
+      O = said-open 1 one .opens

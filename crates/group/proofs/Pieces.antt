@@ -13,7 +13,6 @@ use Rattle.rules.specs.Steps.{withoutOldest, withLists, moved, outgoing, noted}
 use Rattle.rules.specs.Steps as Steps
 use Rattle.rules.specs.Calls.{Check, _⇒_, decide, Result, refusal, written, sendChecks, dataChecks, Call, sends, hears, asks, copies, takes}
 use Rattle.rules.specs.Calls as Calls
-use Rattle.group.proofs.Members.{numbered}
 
 pub record Pieces : Type 0 where
   -- p, next in number, may be accepted
@@ -90,7 +89,7 @@ module _ (k : Pieces) where
       let m : Message = outgoing s d in
       let f : List ℕ = encode (message m) in
       decide (replaced 15 (not (ltb (s .seq) (lowest s + k .window s))) (sendChecks s d out)) (refusal 2 s out)
-      (record { answer = 0; numbers = s .seq ∷ length f ∷ []; next = accepted (numbered s m) m; output = written out f })
+      (record { answer = 0; numbers = s .seq ∷ length f ∷ []; next = accepted (Steps.keeping s m) m; output = written out f })
 
   unfoldable pub arriveData : State → Message → Result
   arriveData s p =
@@ -134,12 +133,12 @@ right-accepted s p =
     right-confirmWhile _ _ ∙ ap (λ (t : State). Steps.confirmWhile (t .ordered) t) (right-preackTo (s .n) (Steps.stored s p))
 
 right-send : (s : State) (d out : List ℕ) → send right s d out ≡ Calls.send s d out
-unfolding send Calls.send sendChecks Steps.sent Steps.maySend numbered
+unfolding send Calls.send sendChecks Steps.sent Steps.maySend
 right-send s d out =
     let m : Message = outgoing s d in
     let f : List ℕ = encode (message m) in
     ap (λ (t : State). decide (sendChecks s d out) (refusal 2 s out) (record { answer = 0; numbers = s .seq ∷ length f ∷ []; next = t; output = written out f }))
-    (right-accepted (numbered s m) m)
+    (right-accepted (Steps.keeping s m) m)
 
 right-arriveData : (s : State) (p : Message) → arriveData right s p ≡ Calls.arriveData s p
 unfolding arriveData Calls.arriveData dataChecks

@@ -8,14 +8,13 @@ use Rattle.rules.specs.Maps.{at, upd, least}
 use Rattle.rules.specs.Message.{Message}
 use Rattle.rules.specs.State.{Place, State, minAL, minPAL, from}
 use Rattle.rules.specs.Steps.{placed, stored, preacked, preackTo, moved, confirm, accepted}
-use Rattle.rules.proofs.MapsLaws.{least-le}
 use Rattle.rules.proofs.StepsLaws.{Stopped, Due, preackTo-all, Ready, confirm-all}
 use Rattle.group.specs.Runs.{Index}
 use Rattle.group.proofs.All.{All, all-right}
 use Rattle.group.proofs.Senders.{Upward, upward-length}
 use Rattle.group.proofs.Course.{Course, said}
 use Rattle.group.proofs.Numbers.{Spoken, Closed, said-closed, said-mono}
-use Rattle.group.proofs.Columns.{row-glb}
+use Rattle.group.proofs.Columns.{row-le, row-glb}
 use Rattle.group.proofs.Lists.{Holds, Part, part, Lists, stored-lists, preacked-lists, moved-lists}
 
 -- what settling leaves alone
@@ -53,15 +52,11 @@ module _ {c : Course} {top pre : ℕ → ℕ} {done : List Place} {u : Part} (L 
   pub pre-le : pre j ≤ u .req j
   pre-le = omega (arith, upward-length (pre j) (from j (u .waiting)) (u .req j) (L .rest j jn))
 
-module _ {c : Course} {top : ℕ → ℕ} {R : ℕ → ℕ → ℕ} (H : Spoken c top) (C : Closed c top R) (old : List Place) (start : State)
-    (K : Knows c top (core start)) where
-  knows : (u : State) → core u ≡ core start → Knows c top (core u)
-  knows u e = subst (Knows c top) (sym e) K
-
+module _ {c : Course} {top : ℕ → ℕ} {R : ℕ → ℕ → ℕ} (H : Spoken c top) (C : Closed c top R) (old : List Place) where
   -- ---- pre-acknowledging
 
   record Preacking (u : State) : Type 0 where
-    pub alike : core u ≡ core start
+    pub knows : Knows c top (core u)
     pub pre : ℕ → ℕ
     pub lists : Lists c top pre (old ++ u .confirmed) (part u)
 
@@ -69,33 +64,36 @@ module _ {c : Course} {top : ℕ → ℕ} {R : ℕ → ℕ → ℕ} (H : Spoken 
   unfolding preacked
   preacking j u p ps W due =
       record {
-        alike = W .alike;
+        knows = W .knows;
         pre = upd (W .pre) (p .src) (suc (p .seq));
         lists =
             preacked-lists H C u (W .lists) p ps (subst (λ k. from k (u .waiting) ≡ p ∷ ps) (sym (due .src)) (due .oldest))
             (subst (λ k. p .seq < minAL u k) (sym (due .src)) (due .early));
       }
 
+  -- ---- confirming
+
+  record Confirming (u : State) : Type 0 where
+    pub knows : Knows c top (core u)
+    pub settled : Settled c top (old ++ u .confirmed) (part u)
+
   -- where no message of j is due, all of j's below minAL went over
-  all-over : (u : State) → Preacking u → ((j : ℕ) → 1 ≤ j → j ≤ start .n → Stopped j u) → Settled c top (old ++ u .confirmed) (part u)
+  all-over : (u : State) → Preacking u → ((j : ℕ) → Index (c .n) j → Stopped j u) → Confirming u
   unfolding minAL
   all-over u W stopped =
       record {
-        pre = W .pre;
-        lists = W .lists;
-        calm = λ j jn. over j jn (from j (u .waiting)) (W .lists .rest j jn) (stopped j (jn .0) (omega (arith, K .size)) .late);
+        knows = W .knows;
+        settled = record {
+          pre = W .pre;
+          lists = W .lists;
+          calm = λ j jn. over j jn (from j (u .waiting)) (W .lists .rest j jn) (stopped j jn .late);
+        };
       }
     where
       over : (j : ℕ) → Index (c .n) j → (l : List Place) → Upward (W .pre j) l (u .req j)
           → ((p : Place) (ps : List Place) → l ≡ p ∷ ps → minAL u j ≤ p .seq) → minAL u j ≤ W .pre j
-      over j jn [] h f = omega (arith, knows u (W .alike) .low j jn)
+      over j jn [] h f = omega (arith, W .knows .low j jn)
       over j jn (p ∷ ps) h f = omega (arith, h .0, f p ps refl)
-
-  -- ---- confirming
-
-  pub record Confirming (u : State) : Type 0 where
-    pub alike : core u ≡ core start
-    pub settled : Settled c top (old ++ u .confirmed) (part u)
 
   -- all that precedes a message ready to be confirmed is pre-acknowledged
   ready-over : (u : State) → Knows c top (core u) → {done : List Place} (S : Settled c top done (part u)) (p : Place) → Holds c top p
@@ -118,12 +116,12 @@ module _ {c : Course} {top : ℕ → ℕ} {R : ℕ → ℕ → ℕ} (H : Spoken 
   unfolding moved minPAL
   confirming u p ps W ready =
       record {
-        alike = W .alike;
+        knows = W .knows;
         settled =
             subst (λ (l : List Place). Settled c top l (part (moved u p))) (append-assoc old (u .confirmed) (p ∷ []))
             (record {
               pre = W .settled .pre;
-              lists = moved-lists u (W .settled .lists) p ps (ready .head) (ready-over u (knows u (W .alike)) (W .settled) p holds firm) firm;
+              lists = moved-lists u (W .settled .lists) p ps (ready .head) (ready-over u (W .knows) (W .settled) p holds firm) firm;
               calm = W .settled .calm;
             });
       }
@@ -134,22 +132,19 @@ module _ {c : Course} {top : ℕ → ℕ} {R : ℕ → ℕ → ℕ} (H : Spoken 
           (all-right (Holds c top) (old ++ u .confirmed) (u .ordered) (W .settled .lists .holds)) .0
 
       firm : (j : ℕ) → Index (c .n) j → p .seq < u .pal (p .src) j
-      firm j jn = le-trans (ready .early) (least-le (u .n) (u .pal (p .src)) j (jn .0) (omega (arith, knows u (W .alike) .size)))
+      firm j jn = le-trans (ready .early) (row-le (W .knows .size) (u .pal (p .src)) j jn)
 
-  -- ---- both
+  -- ---- p is accepted
 
-  settling : {pre : ℕ → ℕ} → Lists c top pre (old ++ start .confirmed) (part start) → Confirming (confirm (preackTo (start .n) start))
-  settling {pre} L =
-      confirm-all Confirming confirming (preackTo (start .n) start)
-      (record { alike = out .0 .alike; settled = all-over (preackTo (start .n) start) (out .0) (out .1) })
+  pub accepted-settled : (u : State) (p : Message) → Settled c top (old ++ u .confirmed) (part u) → Holds c top (placed u p)
+      → u .req (p .src) ≡ p .seq → ((k : ℕ) → Index (c .n) k → minAL u k ≤ minAL (stored u p) k) → Knows c top (core (stored u p))
+      → Settled c top (old ++ accepted u p .confirmed) (part (accepted u p))
+  unfolding accepted stored
+  accepted-settled u p S h e up K =
+      confirm-all Confirming confirming t (all-over t (out .0) (λ j jn. out .1 j (jn .0) (omega (arith, K .size)))) .settled
     where
-      out : Preacking (preackTo (start .n) start) × ((j : ℕ) → 1 ≤ j → j ≤ start .n → Stopped j (preackTo (start .n) start))
-      out = preackTo-all Preacking preacking (start .n) start (record { alike = refl; pre = pre; lists = L })
+      t : State
+      t = preackTo (u .n) (stored u p)
 
--- p is accepted: beside PAL and the lists the unit is as storing left it
-pub accepted-settled : {c : Course} {top : ℕ → ℕ} {R : ℕ → ℕ → ℕ} (H : Spoken c top) (C : Closed c top R) (old : List Place) (u : State) (p : Message)
-    → Settled c top (old ++ u .confirmed) (part u) → Holds c top (placed u p) → u .req (p .src) ≡ p .seq
-    → ((k : ℕ) → Index (c .n) k → minAL u k ≤ minAL (stored u p) k) → (K : Knows c top (core (stored u p)))
-    → Confirming H C old (stored u p) K (accepted u p)
-unfolding accepted stored
-accepted-settled H C old u p S h e up K = settling H C old (stored u p) K (stored-lists u (S .lists) p h e up)
+      out : Preacking t × ((j : ℕ) → 1 ≤ j → j ≤ u .n → Stopped j t)
+      out = preackTo-all Preacking preacking (u .n) (stored u p) (record { knows = K; pre = S .pre; lists = stored-lists u (S .lists) p h e up })

@@ -17,8 +17,7 @@ use Rattle.group.specs.Causality.{Ahead, about, sentIn, Cause, direct, c
 use Rattle.group.specs.Demand.{Content, inMessage, inPlace, confirmedAt, preackedAt, FirstSoMany, OfUnits, EachOnce, InCausalOrder, PreackedByAll, FewWait, SenderKeeps, Demand3, PrecedenceIsCausality}
 use Rattle.group.proofs.Course.{Course, Sent, nothing, ackOf, said}
 use Rattle.group.proofs.Lists.{part, Lists}
-use Rattle.group.proofs.Members.{Member}
-use Rattle.group.proofs.Good.{topOf, reqs, Good}
+use Rattle.group.proofs.Good.{topOf, reqs, Seat, Good}
 use Rattle.group.proofs.Opening.{good-start}
 use Rattle.group.proofs.Agrees.{Agrees, agrees-before}
 use Rattle.group.proofs.EachCall.{call-good}
@@ -31,7 +30,7 @@ run-good : (c : Course) → Index (c .n) 1 → (g : Group) → Run call (c .n) (
 unfolding after
 run-good c one g (opens h) agrees = good-start c h one
 run-good c one g (then {g = b} r i inn cl p) agrees =
-    call-good c b (run-good c one b r (agrees-before c b i _ _ _ _ agrees)) i inn cl p agrees
+    call-good (run-good c one b r (agrees-before c b i _ _ _ _ agrees)) i inn cl p agrees
 
 -- the course of a run that ends in g
 abbrev courseOf : ℕ → ℕ → ℕ → (ℕ → ℕ) → Group → Course
@@ -45,7 +44,7 @@ module _ (n w cid : ℕ) (first : ℕ → ℕ) (g : Group) (run : Run call n w c
   good : (i : ℕ) → Index n i → Good c g
   good i inn = run-good c (omega (arith, inn .0, inn .1)) g run (λ j s low high. refl)
 
-  member : (i : ℕ) → Index n i → Member c (topOf c g) (reqs g) i (g .unit i) (g .log i) (g .took i)
+  member : (i : ℕ) → Index n i → Seat c (topOf c g) (reqs g) i (g .unit i) (g .log i) (g .took i)
   member i inn = good i inn .members i inn
 
   lists : (i : ℕ) (inn : Index n i) → Lists c (topOf c g) (member i inn .tidy .settled .pre) (confirmedAt g i) (part (g .unit i))

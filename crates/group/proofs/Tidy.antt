@@ -11,6 +11,7 @@ use Rattle.rules.specs.Message.{Message}
 use Rattle.rules.specs.State.{Place, State, minAL}
 use Rattle.rules.specs.Steps.{placed, stored, accepted}
 use Rattle.rules.proofs.MapsLaws.{Eq?, same, other, eq?, column-all}
+use Rattle.rules.proofs.KeptLaws.{settled-rest}
 use Rattle.group.specs.Runs.{Index}
 use Rattle.group.proofs.All.{all-map}
 use Rattle.group.proofs.Course.{Course, Sent, ackOf}
@@ -18,7 +19,7 @@ use Rattle.group.proofs.Numbers.{Numbers, Spoken, Closed}
 use Rattle.group.proofs.Growth.{bumped, sent-bumped, grown, grown-up, grown-same, Next, numbers-accepted, closed-accepted}
 use Rattle.group.proofs.Columns.{Column, Says, column-message, says-message, column-more, row-le, row-glb}
 use Rattle.group.proofs.Lists.{Holds, Part, part, Lists}
-use Rattle.group.proofs.Settle.{Core, core, Knows, Settled, Confirming, accepted-settled}
+use Rattle.group.proofs.Settle.{Core, core, Knows, Settled, accepted-settled}
 
 pub record Tidy (c : Course) (top : ℕ → ℕ) (R : ℕ → ℕ → ℕ) (done : List Place) (u : Part) : Type 0 where
   pub size : u .n ≡ c .n
@@ -123,11 +124,9 @@ module _ {c : Course} {top : ℕ → ℕ} {R : ℕ → ℕ → ℕ} {i j : ℕ} 
       (column-all (u .al) (p .src) (at (p .ack)) (λ k x v. Index (c .n) k → u .al k x ≤ v)
       (λ k kn. subst (λ x. u .al k x ≤ at (p .ack) k) (sym src) (up k kn)) (λ k x d kn. le-refl _) k x kn))
 
-  out : Confirming H C old (stored u p) stored-knows (accepted u p)
-  out = accepted-settled H C old u p (T .settled) holds (ap (λ (f : ℕ → ℕ). f (p .src)) same ∙ ap (R i) src ∙ sym seq) minAL-up stored-knows
-
+  -- beside PAL and the lists, the unit is as storing left it
   pub accepted-core : core (accepted u p) ≡ core (stored u p)
-  accepted-core = out .alike
+  accepted-core = ap core (sym (settled-rest u p))
 
   pub accepted-req : accepted u p .req ≡ grown R i j i
   accepted-req = ap (λ (k : Core). k .req) accepted-core ∙ stored-req
@@ -140,7 +139,9 @@ module _ {c : Course} {top : ℕ → ℕ} {R : ℕ → ℕ → ℕ} {i j : ℕ} 
         columns =
             subst (λ (k : Core). (x : ℕ) → Index (c .n) x → Column c (grown R i j) x (k .req x) (λ y. k .al y x)) (sym accepted-core)
             stored-columns;
-        settled = out .settled;
+        settled =
+            accepted-settled H C old u p (T .settled) holds (ap (λ (f : ℕ → ℕ). f (p .src)) same ∙ ap (R i) src ∙ sym seq) minAL-up
+            stored-knows;
       }
 
   pub told-accepted : Told c (part u) → Told c (part (accepted u p))

@@ -62,12 +62,12 @@ did (copies x out) r = []
 did (takes out) r = []
 
 -- the message handed out by a call on the unit s
-abbrev pub handed : Call → State → List Place
-handed (sends d out) s = []
-handed (hears l) s = []
-handed (asks k out) s = []
-handed (copies x out) s = []
-handed (takes out) s = oldest s ∷ []
+abbrev pub handsOut : Call → State → List Place
+handsOut (sends d out) s = []
+handsOut (hears l) s = []
+handsOut (asks k out) s = []
+handsOut (copies x out) s = []
+handsOut (takes out) s = oldest s ∷ []
 
 -- l, where the call was done
 abbrev pub ifDone : {A : Type 0} → Result → List A → List A
@@ -104,7 +104,7 @@ module _ (act : State → Call → Result) where
   unfoldable pub after : Group → ℕ → Call → Group
   after g i c =
       let r : Result = act (g .unit i) c in
-      updated g i (r .next) (ifDone r (wrote c r)) (ifDone r (did c r)) (ifDone r (handed c (g .unit i)))
+      updated g i (r .next) (ifDone r (wrote c r)) (ifDone r (did c r)) (ifDone r (handsOut c (g .unit i)))
 
   -- a group of n opened alike, after any such events, in any order
   pub data Run (n w cid : ℕ) (first : ℕ → ℕ) : Group → Type 0 where

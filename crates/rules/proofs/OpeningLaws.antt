@@ -23,7 +23,7 @@ pub record Opens (i n w cid : ℕ) (first : ℕ → ℕ) : Type 0 where
   pub low : (k : ℕ) → 1 ≤ k → k ≤ n → 1 ≤ first k
   pub high : (k : ℕ) → 1 ≤ k → k ≤ n → first k ≤ last
 
-passed-opens : (i n w cid : ℕ) (first : ℕ → ℕ) → Passed (openChecks i n w cid first) → Opens i n w cid first
+pub passed-opens : (i n w cid : ℕ) (first : ℕ → ℕ) → Passed (openChecks i n w cid first) → Opens i n w cid first
 unfolding openChecks
 passed-opens i n w cid first h =
     let all : rangesFit i n w && leb cid last && every 1 n (λ k. between 1 last (first k)) ≡ true = not-false _ (h .0) in

@@ -28,7 +28,8 @@ sent-mem m (sent p f ∷ l) h = go (List·Memᴰ·append-cases (sentIn l) h) (λ
     go (inr x) i = (f, List·Memᴰ·head (ap (λ (y : Message). sent y f) (List·Memᴰ·eq-of-singleton x)))
 sent-mem m (accepted p ∷ l) h = let r = sent-mem m l h in (r .0, List·Memᴰ·tail (r .1))
 
-module _ (c : Course) (top : ℕ → ℕ) (R : ℕ → ℕ → ℕ) (g : Group) (H : Spoken c top) (C : Closed c top R) (logs : (i : ℕ) → Index (c .n) i → Log c top (R i) i (g .log i)) where
+module _ {c : Course} {top : ℕ → ℕ} {R : ℕ → ℕ → ℕ} (H : Spoken c top) (C : Closed c top R) (g : Group)
+    (logs : (i : ℕ) → Index (c .n) i → Log c top (R i) i (g .log i)) where
   log-of : (i : ℕ) → Index (c .n) i → (e : Did) → Mem e (g .log i) → Of c top (about e)
   log-of i inn e h = all-mem (Has c top (R i)) e (g .log i) h (logs i inn .have) .of
 

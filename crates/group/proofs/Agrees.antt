@@ -1,12 +1,10 @@
 -- The messages of a course are those that the logs of a group say were sent; where they agree after an event, they did before it.
-use mathlib.Core.Logic.{_≢_}
 use mathlib.Core.List.{List, [], _∷_, _++_, append-assoc, append-nil}
-use mathlib.Core.Path.{_≡_, refl, sym, ap, subst, _∙_}
-use Prim.Native.Nat.{ℕ, zero, suc, _+_, _-_, _≤_, _<_}
+use mathlib.Core.Path.{_≡_, sym, ap, subst, _∙_}
+use Prim.Native.Nat.{ℕ, _+_, _-_, _≤_, _<_}
 use native.Mathlib.Omega.{arith}
 use lib.ListN.{length, getD, length-append, List·getD-append}
 use lib.Seq.{getD-append-seam}
-use Rattle.rules.specs.Maps.{upd}
 use Rattle.rules.specs.Message.{Message}
 use Rattle.rules.specs.State.{Place, State}
 use Rattle.rules.proofs.MapsLaws.{upd-same}

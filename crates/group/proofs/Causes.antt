@@ -1,9 +1,9 @@
 -- Causality, read off the logs, is what the precedence test says.
-use mathlib.Core.Bool.{Bool, true, false, false≢true}
+use mathlib.Core.Bool.{Bool, true, false≢true}
 use mathlib.Core.Logic.{_↔_, _⊎_, inl, inr}
-use mathlib.Core.List.{List, [], _∷_, _++_, map, List·Memᴰ as Mem, List·Memᴰ·head, List·Memᴰ·tail, List·Memᴰ·append-cases, List·Memᴰ·eq-of-singleton}
+use mathlib.Core.List.{List, [], _∷_, _++_, List·Memᴰ as Mem, List·Memᴰ·head, List·Memᴰ·tail, List·Memᴰ·append-cases, List·Memᴰ·eq-of-singleton}
 use mathlib.Core.Path.{_≡_, refl, sym, ap, subst, _∙_}
-use Prim.Native.Nat.{ℕ, zero, suc, _+_, _-_, _≤_, _<_}
+use Prim.Native.Nat.{ℕ, _<_}
 use native.Mathlib.Omega.{arith}
 use Rattle.rules.specs.Maps.{at}
 use Rattle.rules.specs.Message.{Message}
@@ -13,9 +13,9 @@ use Rattle.rules.proofs.MapsLaws.{Lt?, lt, ge}
 use Rattle.group.specs.Runs.{Index, Did, sent, accepted, Group}
 use Rattle.group.specs.Causality.{Ahead, about, sentIn, Cause, direct, chain}
 use Rattle.group.specs.Demand.{Content, inMessage, inPlace}
-use Rattle.group.proofs.All.{All, all-mem, pairs-left, pairs-ahead, ahead-front, ahead-back}
+use Rattle.group.proofs.All.{all-mem, pairs-left, pairs-ahead, ahead-front, ahead-back}
 use Rattle.group.proofs.Order.{Precedes, Ordered, precedes?}
-use Rattle.group.proofs.Course.{Course, Sent, ackOf}
+use Rattle.group.proofs.Course.{Course, ackOf}
 use Rattle.group.proofs.Numbers.{Spoken, Closed}
 use Rattle.group.proofs.Logs.{Of, Has, Log, tells-back, tells-forth}
 

@@ -1,9 +1,9 @@
 -- What a unit knows of another's expectations: never more than the truth and closed; and, apart from that, just what its last
 -- message said.
-use mathlib.Core.Path.{_≡_, sym, ap, subst, _∙_}
+use mathlib.Core.Path.{_≡_, sym, ap, _∙_}
 use Prim.Native.Nat.{ℕ, suc, _≤_, _<_}
 use native.Mathlib.Omega.{arith}
-use native.Mathlib.Nat.{le-refl, le-trans}
+use native.Mathlib.Nat.{le-trans}
 use Rattle.rules.specs.Maps.{least}
 use Rattle.rules.proofs.MapsLaws.{least-le, least-glb}
 use Rattle.group.specs.Runs.{Index}

@@ -1,7 +1,7 @@
 -- Every call leads from a good state to a good state.
-use mathlib.Core.Bool.{Bool, true, false, cond}
+use mathlib.Core.Bool.{true}
 use mathlib.Core.Logic.{_≢_}
-use mathlib.Core.List.{List, [], _∷_, _++_, map, append-nil, List·Memᴰ as Mem}
+use mathlib.Core.List.{List, [], _∷_, _++_, map, append-nil}
 use mathlib.Core.Option.{Option, some}
 use mathlib.Core.Path.{_≡_, refl, sym, ap, subst, _∙_}
 use Prim.Native.Nat.{ℕ, _+_, _≤_, _<_}
@@ -15,11 +15,11 @@ use Rattle.rules.specs.Lawful.{Bytes, LawfulMessage}
 use Rattle.rules.specs.State.{Place, State, minAL}
 use Rattle.rules.specs.Steps.{outgoing, noted, asking, isKept, withoutTaken}
 use Rattle.rules.specs.Steps as Steps
-use Rattle.rules.specs.Calls.{Result, written, sendChecks, dataChecks, copyChecks, takeChecks, oldest, Call, sends, hears, asks, copies, takes, call}
+use Rattle.rules.specs.Calls.{Result, written, sendChecks, dataChecks, copyChecks, takeChecks, oldest, Call, call}
 use Rattle.rules.proofs.MapsLaws.{at-listed}
 use Rattle.rules.proofs.MessageLaws.{decode-encode}
 use Rattle.rules.proofs.CallsLaws.{Passed, Refused}
-use Rattle.rules.proofs.CallCases.{checksOf, refusedBy, refusedNext, refusedNext-all, Done, done-sends, done-data, done-request, done-asks, done-copies, done-takes, call-cases, Refuses, is-unsound, is-sound, refused-cases}
+use Rattle.rules.proofs.CallCases.{checksOf, refusedBy, refusedNext-all, Done, done-sends, done-data, done-request, done-asks, done-copies, done-takes, call-cases, Refuses, is-unsound, is-sound, refused-cases}
 use Rattle.rules.proofs.AcceptedLaws.{Accepts, passed-accepts}
 use Rattle.rules.proofs.SendLaws.{Sends, passed-sends}
 use Rattle.rules.proofs.RequestLaws.{isKept-facts}

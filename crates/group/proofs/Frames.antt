@@ -1,13 +1,13 @@
 -- Frames of a run: what a unit sends is lawful, so its frame says it; a request says no message.
 use mathlib.Core.List.{List}
-use mathlib.Core.Option.{Option, some}
+use mathlib.Core.Option.{Option}
 use mathlib.Core.Path.{_≡_, sym, ap, subst, _∙_}
 use Prim.Native.Nat.{ℕ, _+_, _*_, _≤_, _<_}
 use native.Mathlib.Omega.{arith}
 use native.Mathlib.Nat.{mul-le-mul}
 use lib.ListN.{length}
 use Rattle.rules.specs.Maps.{listed}
-use Rattle.rules.specs.Message.{Message, Request, Said, message, request, last, kindOf, asRequest, readAs, orElse, encode, decode}
+use Rattle.rules.specs.Message.{Request, Said, message, request, last, kindOf, asRequest, readAs, orElse, encode, decode}
 use Rattle.rules.specs.Lawful.{Bytes, LawfulMessage}
 use Rattle.rules.specs.State.{State, free}
 use Rattle.rules.specs.Steps.{outgoing}

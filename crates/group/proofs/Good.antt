@@ -1,5 +1,5 @@
 -- What holds in every state of a run, and the three kinds of steps: a message sent, a message accepted from another, and all else.
-use mathlib.Core.Bool.{Bool, true, false, cond}
+use mathlib.Core.Bool.{Bool, cond}
 use mathlib.Core.Logic.{_≢_}
 use mathlib.Core.List.{List, [], _∷_, _++_, append-nil}
 use mathlib.Core.Option.{some}
@@ -18,8 +18,8 @@ use Rattle.group.proofs.All.{All, all-map, all-append}
 use Rattle.group.proofs.Course.{Course, Sent, ackOf, said}
 use Rattle.group.proofs.Numbers.{Numbers, Spoken, Closed}
 use Rattle.group.proofs.Growth.{bumped, bumped-same, bumped-other, grown, grown-other, Fresh, written-all, numbers-written, spoken-written, closed-written, Next, numbers-accepted, closed-accepted}
-use Rattle.group.proofs.Lists.{Part, part}
-use Rattle.group.proofs.Settle.{Core, core}
+use Rattle.group.proofs.Lists.{part}
+use Rattle.group.proofs.Settle.{core}
 use Rattle.group.proofs.Logs.{Of, of-message, of-bumped, Tells, tells-now}
 use Rattle.group.proofs.Members.{Member, member-written, member-grown, member-keeping, member-req, member-accepted}
 

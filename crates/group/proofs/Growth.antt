@@ -1,5 +1,5 @@
 -- The numbers of a group when one message more is written, and when one more is accepted.
-use mathlib.Core.Bool.{Bool, true, false}
+use mathlib.Core.Bool.{Bool}
 use mathlib.Core.Logic.{_≢_}
 use mathlib.Core.Path.{_≡_, sym, subst, _∙_}
 use Prim.Native.Nat.{ℕ, suc, _≤_, _<_}

@@ -1,12 +1,12 @@
 -- One unit with its log and all that it has confirmed: when another writes or accepts, when it writes, and when it accepts.
 use mathlib.Core.Logic.{_≢_}
-use mathlib.Core.List.{List, [], _∷_, _++_}
+use mathlib.Core.List.{List, _∷_, _++_}
 use mathlib.Core.Path.{_≡_, sym, ap, subst, _∙_}
 use Prim.Native.Nat.{ℕ, suc, _≤_, _<_}
 use native.Mathlib.Omega.{arith}
 use native.Mathlib.Nat.{le-trans}
 use borrow.Author.Tests.{le-leb}
-use Rattle.rules.specs.Maps.{upd, least}
+use Rattle.rules.specs.Maps.{least}
 use Rattle.rules.specs.Message.{Message, message, encode}
 use Rattle.rules.specs.State.{Place, State, minAL}
 use Rattle.rules.specs.Steps.{stored, keeping, accepted}

@@ -1,23 +1,22 @@
 -- What each mistake breaks: with one piece wrong, a run leads to a state in which a named clause of demand 3 is false.
-use mathlib.Core.Bool.{Bool, true, false, _&&_}
-use mathlib.Core.List.{List, [], _∷_, _++_, map, cons≢nil, List·Memᴰ as Mem, List·Memᴰ·head, List·Memᴰ·tail, List·Memᴰ·not-nil}
+use mathlib.Core.Bool.{Bool, true}
+use mathlib.Core.List.{List, [], _∷_, _++_, cons≢nil, List·Memᴰ·head, List·Memᴰ·tail, List·Memᴰ·not-nil}
 use mathlib.Core.Path.{_≡_, refl, sym, ap, subst, _∙_}
 use Prim.Native.Nat.{ℕ, zero, suc, _+_, _/_, _≤_, _<_, min, max}
 use native.Mathlib.Omega.{arith}
-use lib.Dec.{eqb, ltb}
+use lib.Dec.{eqb}
 use lib.ListN.{length, getD}
-use borrow.Author.Tests.{ltb-true}
 use Rattle.rules.specs.Maps.{every, least}
 use Rattle.rules.specs.Message.{Message}
-use Rattle.rules.specs.State.{Place, State, minAL, minPAL, from}
+use Rattle.rules.specs.State.{Place, State, minAL, minPAL}
 use Rattle.rules.specs.Steps.{known, window, insert}
 use Rattle.rules.specs.Calls.{opening}
 use Rattle.group.specs.Runs.{Index, Did, sent, accepted, Group, fresh, Run}
-use Rattle.group.specs.Causality.{Ahead, about, sentIn, Cause, direct, chain}
+use Rattle.group.specs.Causality.{Ahead, about, Cause, direct, chain}
 use Rattle.group.specs.Demand.{inMessage, inPlace, confirmedAt, InCausalOrder, PreackedByAll, FewWait, SenderKeeps}
 use Rattle.group.proofs.All.{ahead-getD}
 use Rattle.group.proofs.Course.{nothing}
-use Rattle.group.proofs.Scripts.{Line, _says_, _hears_, _asks_, _copies_, takes, play, fits, script-run, computing}
+use Rattle.group.proofs.Scripts.{Line, _says_, _hears_, play, fits, script-run, computing}
 use Rattle.group.proofs.Pieces as Pieces
 use Rattle.group.proofs.Pieces.{Pieces, pieces, lowest, stored, preacked, preackWhile, preackTo, confirmWhile, send, arriveData, call}
 

@@ -119,9 +119,10 @@ module _ {c : Course} {top : ℕ → ℕ} {R : ℕ → ℕ → ℕ} {done : List
     (L : Log c top (R i) i log) (u : State) (M : Member c top R j (core u) (part u) done mine) where
   pub keeps : (m : Message) (f : List ℕ) → Mem (sent m f) mine → ¬ (Mem m (map about log)) → (isKept u (m .seq) ≡ true) × (u .kept (m .seq) ≡ f)
   unfolding minAL
-  keeps m f h lacks =
-      (facts-isKept u (m .seq) (subst (λ x. minAL u x ≤ m .seq) (sym (M .me)) low) (subst (λ x. m .seq < x) (sym (M .seq)) high),
-      M .kept (m .seq) low high ∙ ap (λ (x : Message). encode (message x)) (sym is) ∙ sym (by .1))
+  keeps m f h lacks = (
+    facts-isKept u (m .seq) (subst (λ x. minAL u x ≤ m .seq) (sym (M .me)) low) (subst (λ x. m .seq < x) (sym (M .seq)) high),
+    M .kept (m .seq) low high ∙ ap (λ (x : Message). encode (message x)) (sym is) ∙ sym (by .1),
+  )
     where
       of : Of c top m
       of = all-mem (Has c top (u .req)) (sent m f) mine h (M .logs .have) .of

@@ -1,8 +1,8 @@
 -- Runs written down line by line: frames are counted from 1 as they are written, and 117 bytes are lent for output.
-use mathlib.Core.Bool.{Bool, true, false, _&&_}
-use mathlib.Core.List.{List, [], _∷_, _++_, List·Memᴰ as Mem}
-use mathlib.Core.Path.{_≡_, refl}
-use Prim.Native.Nat.{ℕ, zero, suc, _-_, _≤_, _<_}
+use mathlib.Core.Bool.{Bool, true, _&&_}
+use mathlib.Core.List.{List, [], _∷_}
+use mathlib.Core.Path.{_≡_}
+use Prim.Native.Nat.{ℕ, _-_}
 use native.Mathlib.Omega.{arith}
 use lib.Dec.{eqb, ltb}
 use lib.ListN.{length, getD, replicate}
@@ -10,14 +10,14 @@ use borrow.Author.Tests.{ltb-true, eqb-true}
 use Rattle.rules.specs.Maps.{between, all, every, upd, column, units}
 use Rattle.rules.specs.Fields.{table, rowOf, tagsOf, fieldFits}
 use Rattle.rules.specs.Message.{encode, decode, inLimits, readAs}
-use Rattle.rules.specs.Lawful.{Each, nil, cons, Bytes}
+use Rattle.rules.specs.Lawful.{nil, cons, Bytes}
 use Rattle.rules.specs.State.{State, minAL, minPAL, from, free, opened}
 use Rattle.rules.specs.Steps.{window, maySend, outgoing, known, freeSlot, placed, stored, noted, asking, isKept, resentFrom, precedes, preacked, preackOf, moved, confirm, accepted, sent, withoutTaken}
 use Rattle.rules.specs.Sound.{rangesFit, nextsFit, windowFits, placeFits, keptFit, sound}
 use Rattle.rules.specs.Calls as Calls
 use Rattle.rules.specs.Calls.{Result, Call, full, foreign, openChecks, opening, sendChecks, send, dataChecks, arriveData, requestChecks, arriveRequest, arrive, makeChecks, makeRequest, copyChecks, copy, oldest, takeChecks, take}
 use Rattle.rules.proofs.MapsLaws.{and-both, between-low, between-high, every-at}
-use Rattle.group.specs.Runs.{Index, Group, updated, Proper, fresh, after, Run, opens, then}
+use Rattle.group.specs.Runs.{Group, updated, Proper, fresh, after, Run, opens, then}
 use Rattle.group.proofs.All.{mem-getD}
 
 infix 70 _says_ _hears_ _asks_ _copies_

@@ -7,7 +7,7 @@ use native.Mathlib.Nat.{le-trans}
 use Rattle.rules.specs.Maps.{at, upd, least}
 use Rattle.rules.specs.Message.{Message}
 use Rattle.rules.specs.State.{Place, State, minAL, minPAL, from}
-use Rattle.rules.specs.Steps.{placed, stored, preacked, preackTo, moved, confirm, accepted}
+use Rattle.rules.specs.Steps.{placed, stored, preacked, preackTo, moved, accepted}
 use Rattle.rules.proofs.StepsLaws.{Stopped, Due, preackTo-all, Ready, confirm-all}
 use Rattle.group.specs.Runs.{Index}
 use Rattle.group.proofs.All.{All, all-right}

@@ -1,12 +1,10 @@
 -- A run of three units in which a frame is lost, asked for and resent, one comes early, and each unit takes a message of each.
-use mathlib.Core.Bool.{Bool, true, false, cond}
-use mathlib.Core.List.{List, [], _∷_, _++_, map}
+use mathlib.Core.List.{List, [], _∷_, map}
 use mathlib.Core.Path.{_≡_, refl}
-use Prim.Native.Nat.{ℕ, zero, suc}
+use Prim.Native.Nat.{ℕ}
 use lib.ListN.{replicate}
-use Rattle.rules.specs.State.{Place}
 use Rattle.rules.specs.Calls.{call}
-use Rattle.group.specs.Runs.{Index, Group, fresh, Run}
+use Rattle.group.specs.Runs.{Group, fresh, Run}
 use Rattle.group.proofs.Scripts.{Line, _says_, _hears_, _asks_, _copies_, takes, play, answers, script-run, computing}
 
 pub start : Group

@@ -6,7 +6,7 @@ use lib.ListN.{getD}
 use Rattle.rules.specs.Calls.{call}
 use Rattle.group.specs.Runs.{Index, Group, after, Run, opens, then}
 use Rattle.group.specs.Causality.{sentIn}
-use Rattle.group.specs.Demand.{confirmedAt, Demand3, PrecedenceIsCausality}
+use Rattle.group.specs.Demand.{confirmedAt, Demand3, PrecedenceIsCausality, Promise}
 use Rattle.group.proofs.Course.{Course, nothing}
 use Rattle.group.proofs.Lists.{part, Lists}
 use Rattle.group.proofs.Good.{topOf, reqs, Fair, Seat, Good}
@@ -41,7 +41,7 @@ module _ (n w cid : ℕ) (first : ℕ → ℕ) (g : Group) (run : Run call n w c
   lists : (i : ℕ) (inn : Index n i) → Lists c (topOf c g) (seat i inn .tidy .settled .pre) (confirmedAt g i) (part (g .unit i))
   lists i inn = seat i inn .tidy .settled .lists
 
-  pub demand-3 : Demand3 n w g
+  demand-3 : Demand3 n w g
   demand-3 =
       record {
         first-so-many = λ i k inn kn. done-firsts (lists i inn) (fair i inn .spoken) k kn (g .log k) (λ s low high. refl) refl;
@@ -58,6 +58,9 @@ module _ (n w cid : ℕ) (first : ℕ → ℕ) (g : Group) (run : Run call n w c
         sender-keeps = λ i j inn jn. keeps i j inn jn (seat i inn .logs) (g .unit j) (seat j jn);
       }
 
-  pub precedence-is-causality : PrecedenceIsCausality n g
+  precedence-is-causality : PrecedenceIsCausality n g
   precedence-is-causality j k jn kn a b ma mb p q pa qb =
       precedence (fair j jn .spoken) (fair j jn .closed) g (λ l ln. seat l ln .logs) p q a b pa qb j k jn kn ma mb
+
+pub promise : Promise
+promise n w cid first g run = (demand-3 n w cid first g run, precedence-is-causality n w cid first g run)

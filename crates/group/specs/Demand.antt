@@ -1,14 +1,23 @@
--- Demand 3: what is promised of every group state that a run leads to.
-use mathlib.Core.Bool.{Bool, true, false}
-use mathlib.Core.List.{List, [], _∷_, _++_, map, List·Memᴰ as Mem}
+-- Demand 3: what is promised of a group, in every state that a run leads to.
+--
+-- A group (Runs.antt) is n units opened alike: rules' `opening`, with the same n, W, CID and first numbers, answered 0 for each index.
+-- Beside the units it has every frame written so far, a log of what each unit did, and what was taken from each.
+-- A run is any sequence of rules' calls on its units, with any arguments, output too short included; but the data sent are bytes, and
+-- what arrives is a copy of a frame that some unit wrote before. So frames are lost, late, repeated, reordered and resent in any way,
+-- and every refusal may happen. A unit is never put back to an earlier state.
+-- A message p causally precedes q (Causality.antt) where q's sender had sent or accepted p before it sent q, by its log, or where
+-- a chain of such steps leads from p to q. ACK, REQ and AL have no part in this.
+use mathlib.Core.Bool.{true}
+use mathlib.Core.List.{List, _++_, map, List·Memᴰ as Mem}
 use mathlib.Core.Logic.{_↔_}
 use mathlib.Core.Path.{_≡_}
 use Prim.Native.Nat.{ℕ, _≤_}
 use lib.ListN.{length, take}
 use Rattle.rules.specs.Message.{Message}
-use Rattle.rules.specs.State.{Place, State, from}
+use Rattle.rules.specs.State.{Place, from}
 use Rattle.rules.specs.Steps.{isKept, precedes}
-use Rattle.group.specs.Runs.{Index, Did, sent, Group}
+use Rattle.rules.specs.Calls.{call}
+use Rattle.group.specs.Runs.{Index, sent, Group, Run}
 use Rattle.group.specs.Causality.{Ahead, about, sentIn, Cause}
 
 -- What a message says, sent or in a place: a place holds no CID and no BUF, a message has no slot.
@@ -85,3 +94,9 @@ abbrev pub PrecedenceIsCausality : ℕ → Group → Type 0
 PrecedenceIsCausality n g =
     (j k : ℕ) → Index n j → Index n k → (a b : Message) → Mem a (sentIn (g .log j)) → Mem b (sentIn (g .log k))
     → (p q : Place) → inPlace p ≡ inMessage a → inPlace q ≡ inMessage b → (precedes p q ≡ true) ↔ Cause n g a b
+
+-- ---- the promise, proved in proofs/Theorem.antt
+
+abbrev pub Promise : Type 0
+Promise =
+    (n w cid : ℕ) (first : ℕ → ℕ) (g : Group) → Run call n w cid first g → Demand3 n w g × PrecedenceIsCausality n g

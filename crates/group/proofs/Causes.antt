@@ -34,7 +34,7 @@ module _ {c : Course} {top : ℕ → ℕ} {R : ℕ → ℕ → ℕ} (H : Spoken 
   log-of i inn e h = all-mem (Has c top (R i)) e (g .log i) h (logs i inn .have) .of
 
   -- p's number is below what q's sender then expected of p's
-  pub record Before (p q : Message) : Type 0 where
+  record Before (p q : Message) : Type 0 where
     pub one : Of c top p
     pub two : Of c top q
     pub under : p .seq < ackOf q (p .src)
@@ -58,7 +58,7 @@ module _ {c : Course} {top : ℕ → ℕ} {R : ℕ → ℕ → ℕ} (H : Spoken 
             );
       }
 
-  pub cause-before : (p q : Message) → Cause (c .n) g p q → Before p q
+  cause-before : (p q : Message) → Cause (c .n) g p q → Before p q
   cause-before p q (direct p′ q′ f e k kn is a) =
       subst (λ (x : Message). Before x q′) is
       (record {
@@ -68,7 +68,8 @@ module _ {c : Course} {top : ℕ → ℕ} {R : ℕ → ℕ → ℕ} (H : Spoken 
       })
   cause-before p q (chain p′ q′ r′ a b) = before-trans p′ q′ r′ (cause-before p′ q′ a) (cause-before q′ r′ b)
 
-  pub before-cause : (p q : Message) → Of c top p → (k : ℕ) → Index (c .n) k → Mem q (sentIn (g .log k)) → p .seq < ackOf q (p .src) → Cause (c .n) g p q
+  before-cause : (p q : Message) → Of c top p → (k : ℕ) → Index (c .n) k → Mem q (sentIn (g .log k)) → p .seq < ackOf q (p .src)
+      → Cause (c .n) g p q
   before-cause p q o k kn h below =
       let s = sent-mem q (g .log k) h in
       let r = tells-forth c k q (s .0) (g .log k) (logs k kn .tell) (s .1) (p .src) (p .seq) (o .sent .index) (o .sent .low) below in
@@ -83,22 +84,28 @@ module _ {c : Course} {top : ℕ → ℕ} {R : ℕ → ℕ → ℕ} (H : Spoken 
     ack-is : at (q .ack) (p .src) ≡ ackOf b (a .src)
     ack-is t = at (qb t .ack) (pa t .src)
 
-    pub cause-precedes : Cause (c .n) g a b → Precedes p q
+    cause-precedes : Cause (c .n) g a b → Precedes p q
     cause-precedes h = omega (arith, seq-is, ack-is, cause-before a b h .under)
 
-    pub precedence : (j k : ℕ) → Index (c .n) j → Index (c .n) k → Mem a (sentIn (g .log j)) → Mem b (sentIn (g .log k)) → (precedes p q ≡ true) ↔ Cause (c .n) g a b
+    pub precedence : (j k : ℕ) → Index (c .n) j → Index (c .n) k → Mem a (sentIn (g .log j)) → Mem b (sentIn (g .log k))
+        → (precedes p q ≡ true) ↔ Cause (c .n) g a b
     precedence j k jn kn ma mb = go (precedes? p q own)
       where
         of : (x : Message) (i : ℕ) → Index (c .n) i → Mem x (sentIn (g .log i)) → Of c top x
         of x i inn h = let r = sent-mem x (g .log i) h in log-of i inn (sent x (r .0)) (r .1)
 
         own : at (q .ack) (q .src) ≡ q .seq
-        own = (λ t. at (qb t .ack) (qb t .src)) ∙ ack-of b (of b k kn mb) (b .src) ∙ H .own (b .src) (b .seq) (of b k kn mb .sent) ∙ ap (λ (x : Content). x .seq) (sym qb)
+        own =
+            (λ t. at (qb t .ack) (qb t .src))
+            ∙ ack-of b (of b k kn mb) (b .src)
+            ∙ H .own (b .src) (b .seq) (of b k kn mb .sent)
+            ∙ ap (λ (x : Content). x .seq) (sym qb)
 
         go : {t : Bool} → Lt? (p .seq) (at (q .ack) (p .src)) t → (t ≡ true) ↔ Cause (c .n) g a b
         go (lt h) = (λ e. before-cause a b (of a j jn ma) k kn mb (omega (arith, seq-is, ack-is)), λ x. refl)
         go (ge h) = (λ e. absurd (false≢true e), λ x. absurd (omega (arith, cause-precedes x)))
 
   -- none stands before one that causally precedes it
-  pub ordered-causes : (l r : List Place) → Ordered (l ++ r) → (p q : Place) → Ahead p q l → (a b : Message) → inPlace p ≡ inMessage a → inPlace q ≡ inMessage b → ¬ (Cause (c .n) g b a)
+  pub ordered-causes : (l r : List Place) → Ordered (l ++ r) → (p q : Place) → Ahead p q l
+      → (a b : Message) → inPlace p ≡ inMessage a → inPlace q ≡ inMessage b → ¬ (Cause (c .n) g b a)
   ordered-causes l r o p q h a b pa qb cause = pairs-ahead _ p q l h (pairs-left _ l r o) (cause-precedes q p b a qb pa cause)

@@ -35,7 +35,8 @@ unfoldable pub said : Course → ℕ → ℕ → ℕ → ℕ
 said c j r k = cond (ltb (c .first j) r) (ackOf (c .msg j (r - 1)) k) (c .first k)
 
 module _ (c : Course) (j r : ℕ) where
-  pub said-cases : (P : (ℕ → ℕ) → Type 0) → (r ≤ c .first j → P (c .first)) → ((s : ℕ) → r ≡ suc s → c .first j ≤ s → P (ackOf (c .msg j s))) → P (said c j r)
+  pub said-cases : (P : (ℕ → ℕ) → Type 0) → (r ≤ c .first j → P (c .first))
+      → ((s : ℕ) → r ≡ suc s → c .first j ≤ s → P (ackOf (c .msg j s))) → P (said c j r)
   unfolding said
   said-cases P f g = go (lt? (c .first j) r)
     where

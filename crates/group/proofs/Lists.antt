@@ -80,7 +80,8 @@ stored-lists {c} {top} {pre} u L p h e up =
       rest =
           upd-all (u .req) (p .src) (suc (p .seq)) (λ k v. Index (c .n) k → Upward (pre k) (from k (u .waiting ++ (placed u p ∷ []))) v)
           (λ i. subst (λ (l : List Place). Upward (pre (p .src)) l (suc (p .seq))) (sym own)
-          (upward-snoc (pre (p .src)) (from (p .src) (u .waiting)) (p .seq) (placed u p) (subst (Upward (pre (p .src)) (from (p .src) (u .waiting))) e (L .rest (p .src) i)) refl))
+          (upward-snoc (pre (p .src)) (from (p .src) (u .waiting)) (p .seq) (placed u p)
+          (subst (Upward (pre (p .src)) (from (p .src) (u .waiting))) e (L .rest (p .src) i)) refl))
           (λ k d i. subst (λ (l : List Place). Upward (pre k) l (u .req k)) (sym (others k (λ x. d (sym x)))) (L .rest k i));
       early = λ k kn. le-trans (L .early k kn) (up k kn);
       holds = L .holds;
@@ -196,7 +197,8 @@ module _ {c : Course} {top pre : ℕ → ℕ} {R : ℕ → ℕ → ℕ} {done : 
 
 -- ---- the head of the ordered list is confirmed
 
-pub moved-lists : {c : Course} {top pre : ℕ → ℕ} {done : List Place} (u : State) → Lists c top pre done (part u) → (p : Place) (ps : List Place) → u .ordered ≡ p ∷ ps
+pub moved-lists : {c : Course} {top pre : ℕ → ℕ} {done : List Place} (u : State) → Lists c top pre done (part u)
+    → (p : Place) (ps : List Place) → u .ordered ≡ p ∷ ps
     → ((j : ℕ) → Index (c .n) j → at (p .ack) j ≤ pre j) → ((j : ℕ) → Index (c .n) j → p .seq < u .pal (p .src) j)
     → Lists c top pre (done ++ (p ∷ [])) (part (moved u p))
 unfolding moved

@@ -100,7 +100,8 @@ tells-at : (c : Course) (i : ℕ) (m : Message) (f : List ℕ) (e : Did) (l : Li
     → Tells c i m f l
 tells-at c i m f e l q t = subst (λ (x : Did). TellsIfSent c i x l) (sym q) (t .0)
 
-pub tells-back : (c : Course) (i : ℕ) (m : Message) (f : List ℕ) (e : Did) (l : List Did) → AllTell c i l → Ahead (sent m f) e l → about e .seq < ackOf m (about e .src)
+pub tells-back : (c : Course) (i : ℕ) (m : Message) (f : List ℕ) (e : Did) (l : List Did) → AllTell c i l → Ahead (sent m f) e l
+    → about e .seq < ackOf m (about e .src)
 tells-back c i m f e (x ∷ l) t (here q h) = all-mem (λ d. about d .seq < ackOf m (about d .src)) e l h (tells-at c i m f x l q t .back)
 tells-back c i m f e (x ∷ l) t (there a) = tells-back c i m f e l (t .1) a
 

@@ -84,8 +84,8 @@ member-keeping {c} {top} {i = i} u M m is =
 
 -- ---- it accepts, its own or another's
 
-module _ {c : Course} {top : ℕ → ℕ} {R : ℕ → ℕ → ℕ} {i j : ℕ} {log : List Did} (I : Numbers c top R) (H : Spoken c top) (C : Closed c top R) (A : Next c top R i j)
-    (took : List Place) (u : State) (same : u .req ≡ R i) (M : Member c top R i (core u) (part u) (took ++ u .confirmed) log) where
+module _ {c : Course} {top : ℕ → ℕ} {R : ℕ → ℕ → ℕ} {i j : ℕ} {log : List Did} (I : Numbers c top R) (H : Spoken c top)
+    (C : Closed c top R) (A : Next c top R i j) (took : List Place) (u : State) (same : u .req ≡ R i) (M : Member c top R i (core u) (part u) (took ++ u .confirmed) log) where
   abbrev p : Message
   p = c .msg j (R i j)
 

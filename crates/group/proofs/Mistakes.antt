@@ -30,7 +30,8 @@ module _ (k : Pieces) (n w : ℕ) (script : List Line) where
   abbrev last : Group
   last = play (call k) (fresh n w 7 (λ i. 1)) script
 
-  breaks : (Clause : Group → Type 0) → every 1 n (λ i. eqb (opening i n w 7 (λ j. 1) .answer) 0) ≡ true → fits (call k) n (fresh n w 7 (λ i. 1)) script ≡ true → ¬ (Clause last) → Breaks k n w Clause
+  breaks : (Clause : Group → Type 0) → every 1 n (λ i. eqb (opening i n w 7 (λ j. 1) .answer) 0) ≡ true
+      → fits (call k) n (fresh n w 7 (λ i. 1)) script ≡ true → ¬ (Clause last) → Breaks k n w Clause
   breaks Clause a b c = record { state = last; run = script-run (call k) n w 7 (λ i. 1) script a b; broken = c }
 
 -- where a proof unfolds this, runs with open pieces compute too
@@ -109,14 +110,17 @@ InOrder x y size = (x < y) × (y < size)
 
 module _ (n : ℕ) (g : Group) where
   -- unit k sent q, and had p in its log before
-  caused : (p q : Message) (k : ℕ) → Index n k → (x y : ℕ) → InOrder x y (length (g .log k)) → SentAs (entry g k x) → about (entry g k y) ≡ p → about (entry g k x) ≡ q → Cause n g p q
+  caused : (p q : Message) (k : ℕ) → Index n k → (x y : ℕ) → InOrder x y (length (g .log k)) → SentAs (entry g k x)
+      → about (entry g k y) ≡ p → about (entry g k x) ≡ q → Cause n g p q
   caused p q k kn x y h s ep eq =
       let r = sent-as (entry g k x) s in
       direct p q (r .0) (entry g k y) k kn ep
-      (subst (λ (e : Did). Ahead e (entry g k y) (g .log k)) (r .1 ∙ ap (λ (m : Message). sent m (r .0)) eq) (ahead-getD (accepted nothing) (g .log k) x y (h .0) (h .1)))
+      (subst (λ (e : Did). Ahead e (entry g k y) (g .log k)) (r .1 ∙ ap (λ (m : Message). sent m (r .0)) eq)
+      (ahead-getD (accepted nothing) (g .log k) x y (h .0) (h .1)))
 
-  disordered : (i : ℕ) → Index n i → (x y : ℕ) → InOrder x y (length (confirmedAt g i)) → (p q : Message) → inPlace (place g i x) ≡ inMessage q → inPlace (place g i y) ≡ inMessage p
-      → Cause n g p q → ¬ (InCausalOrder n g)
+  -- at unit i q stands before p
+  disordered : (i : ℕ) → Index n i → (x y : ℕ) → InOrder x y (length (confirmedAt g i)) → (p q : Message)
+      → inPlace (place g i x) ≡ inMessage q → inPlace (place g i y) ≡ inMessage p → Cause n g p q → ¬ (InCausalOrder n g)
   disordered i inn x y h p q eq ep c order = order i inn (place g i x) (place g i y) (ahead-getD _ (confirmedAt g i) x y (h .0) (h .1)) q p eq ep c
 
 -- inserted at the end: unit 1's first message is confirmed before unit 2's, which it had accepted before it sent

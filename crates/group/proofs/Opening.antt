@@ -140,7 +140,9 @@ module _ (c : Course) (opens : (i : ℕ) → Index (c .n) i → opening i (c .n)
           readable = record { read = λ j s h. absurd (none h) };
         };
         own = λ i inn. omega (arith, req-first i i inn inn);
-        members = λ i inn. subst (λ (u : State). Member c (topOf c start) (reqs start) i (core u) (part u) (u .confirmed) []) (sym (said-open i inn .unit)) (start-member i inn);
+        members = λ i inn.
+            subst (λ (u : State). Member c (topOf c start) (reqs start) i (core u) (part u) (u .confirmed) []) (sym (said-open i inn .unit))
+            (start-member i inn);
         air = tt;
       }
     where

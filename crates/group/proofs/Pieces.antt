@@ -26,7 +26,8 @@ pub record Pieces : Type 0 where
   pub preackBelow : State → ℕ → ℕ
   pub confirmBelow : State → ℕ → ℕ
 
-abbrev pub pieces : (State → Message → Bool) → (State → ℕ) → (State → ℕ) → (Place → List Place → List Place) → (State → ℕ → ℕ) → (State → ℕ → ℕ) → Pieces
+abbrev pub pieces : (State → Message → Bool) → (State → ℕ) → (State → ℕ) → (Place → List Place → List Place)
+    → (State → ℕ → ℕ) → (State → ℕ → ℕ) → Pieces
 pieces known window keptFrom insert preackBelow confirmBelow =
     record { known = known; window = window; keptFrom = keptFrom; insert = insert; preackBelow = preackBelow; confirmBelow = confirmBelow }
 

@@ -42,6 +42,9 @@ module _ {c : Course} {top : ℕ → ℕ} {R : ℕ → ℕ → ℕ} {done made :
   accepted x xn =
       omega (arith, T .settled .lists .early x xn, row-le (T .size) (u .al x) l ln, T .columns l ln .within x xn, ap (λ (f : ℕ → ℕ). f x) row)
 
+  expected : (x : ℕ) → Index (c .n) x → v .req x ≤ top x
+  expected x xn = subst (λ (f : ℕ → ℕ). f x ≤ top x) (sym row) (I .high l x ln xn)
+
   -- some message of x that u has pre-acknowledged expects more than p; v knows of it
   seen : (x : ℕ) → Index (c .n) x → p .seq < v .al (p .src) x
   seen x xn =
@@ -49,7 +52,7 @@ module _ {c : Course} {top : ℕ → ℕ} {R : ℕ → ℕ → ℕ} {done made :
       (λ e h. absurd (omega (arith, holds .sent .low)))
       (λ s e low h. omega (
         arith,
-        said-all x xn H (v .req x) (subst (λ (f : ℕ → ℕ). f x ≤ top x) (sym row) (I .high l x ln xn)) s (p .src) low (omega (arith, accepted x xn)) (holds .sent .index),
+        said-all x xn H (v .req x) (expected x xn) s (p .src) low (omega (arith, accepted x xn)) (holds .sent .index),
         Y .columns x xn .reaches (p .src) (holds .sent .index),
       ))
       (subst (λ y. p .seq < y) (T .settled .lists .pal (p .src) x (holds .sent .index) xn) (firm x xn))

@@ -93,8 +93,8 @@ module _ (act : State → Call → Result) where
       (then r (who l) (between-low 1 n (who l) (both .0), between-high 1 n (who l) (both .0)) (callOf g l) (proper g l (both .1))) (rest .1)
 
   -- a script that fits is a run
-  pub script-run : (n w cid : ℕ) (first : ℕ → ℕ) (ls : List Line) → every 1 n (λ i. eqb (opening i n w cid first .answer) 0) ≡ true → fits n (fresh n w cid first) ls ≡ true
-      → Run act n w cid first (play (fresh n w cid first) ls)
+  pub script-run : (n w cid : ℕ) (first : ℕ → ℕ) (ls : List Line) → every 1 n (λ i. eqb (opening i n w cid first .answer) 0) ≡ true
+      → fits n (fresh n w cid first) ls ≡ true → Run act n w cid first (play (fresh n w cid first) ls)
   script-run n w cid first ls a b =
       play-run n w cid first (fresh n w cid first) ls (opens (λ i inn. eqb-true _ 0 (every-at 1 n _ a i (inn .0) (omega arith)))) b
 

@@ -29,7 +29,8 @@ module _ (P : Place → Type 0) (k : ℕ) where
   from-all [] h = tt
   from-all (p ∷ l) h = go (eq? (p .src) k) h (λ r. from-all l r)
     where
-      go : {t : Bool} → Eq? (p .src) k t → All P (cond t (p ∷ from k l) (from k l)) → (All P (from k l) → All (λ p. p .src ≡ k → P p) l) → All (λ p. p .src ≡ k → P p) (p ∷ l)
+      go : {t : Bool} → Eq? (p .src) k t → All P (cond t (p ∷ from k l) (from k l)) → (All P (from k l) → All (λ p. p .src ≡ k → P p) l)
+          → All (λ p. p .src ≡ k → P p) (p ∷ l)
       go (same e) h i = (λ q. h .0, i (h .1))
       go (other d) h i = (λ q. absurd (d q), i h)
 

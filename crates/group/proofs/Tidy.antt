@@ -31,7 +31,8 @@ pub record Told (c : Course) (u : Part) : Type 0 where
 
 -- ---- another writes, or accepts
 
-pub tidy-written : {c : Course} {top : ℕ → ℕ} {R : ℕ → ℕ → ℕ} {done : List Place} {u : Part} → Tidy c top R done u → (i : ℕ) → Tidy c (bumped top i) R done u
+pub tidy-written : {c : Course} {top : ℕ → ℕ} {R : ℕ → ℕ → ℕ} {done : List Place} {u : Part} → Tidy c top R done u → (i : ℕ)
+    → Tidy c (bumped top i) R done u
 tidy-written {c} {top} {done = done} {u = u} T i =
     record { size = T .size; columns = T .columns; settled = record { pre = T .settled .pre; lists = lists; calm = T .settled .calm } }
   where
@@ -55,7 +56,8 @@ tidy-written {c} {top} {done = done} {u = u} T i =
           firm = L .firm;
         }
 
-pub tidy-grown : {c : Course} {top : ℕ → ℕ} {R : ℕ → ℕ → ℕ} {done : List Place} {u : Part} → Tidy c top R done u → (i j : ℕ) → Tidy c top (grown R i j) done u
+pub tidy-grown : {c : Course} {top : ℕ → ℕ} {R : ℕ → ℕ → ℕ} {done : List Place} {u : Part} → Tidy c top R done u → (i j : ℕ)
+    → Tidy c top (grown R i j) done u
 tidy-grown {R = R} T i j = record { size = T .size; columns = λ x xn. column-more (grown-up R i j x) (T .columns x xn); settled = T .settled }
 
 -- ---- the unit itself accepts

@@ -1,5 +1,5 @@
 -- What the numbers of a group keep: R i k is what unit i next expects of unit k.
-use mathlib.Core.Path.{_≡_}
+use mathlib.Core.Path.{_≡_, sym, subst}
 use Prim.Native.Nat.{ℕ, _≤_, _<_}
 use native.Mathlib.Omega.{arith}
 use native.Mathlib.Nat.{le-refl}
@@ -11,6 +11,11 @@ pub record Numbers (c : Course) (top : ℕ → ℕ) (R : ℕ → ℕ → ℕ) : 
   pub low : (i k : ℕ) → Index (c .n) i → Index (c .n) k → c .first k ≤ R i k
   pub high : (i k : ℕ) → Index (c .n) i → Index (c .n) k → R i k ≤ top k
   pub past : (j s k : ℕ) → Sent c top j s → Index (c .n) k → ackOf (c .msg j s) k ≤ R j k
+
+-- r is what i expects
+pub row-high : {c : Course} {top : ℕ → ℕ} {R : ℕ → ℕ → ℕ} → Numbers c top R → {i : ℕ} → Index (c .n) i → {r : ℕ → ℕ} → r ≡ R i
+    → (x : ℕ) → Index (c .n) x → r x ≤ top x
+row-high {top = top} I {i} inn e x xn = subst (λ (f : ℕ → ℕ). f x ≤ top x) (sym e) (I .high i x inn xn)
 
 -- a message is found under its sender and number, expects itself, and its ACKs only grow
 pub record Spoken (c : Course) (top : ℕ → ℕ) : Type 0 where

@@ -17,7 +17,7 @@ use Rattle.group.specs.Demand.{inMessage, inPlace}
 use Rattle.group.proofs.All.{all-left, all-mem, mem-map}
 use Rattle.group.proofs.Senders.{all-from, all-src, mem-from, upward-length, upward-find}
 use Rattle.group.proofs.Course.{Course, Sent, ackOf, said-cases}
-use Rattle.group.proofs.Numbers.{Numbers, Spoken, Closed, said-all, said-mono}
+use Rattle.group.proofs.Numbers.{Numbers, Spoken, Closed, row-high, said-all, said-mono}
 use Rattle.group.proofs.Columns.{row-le, row-glb}
 use Rattle.group.proofs.Lists.{Holds, Part, part}
 use Rattle.group.proofs.Settle.{core, Settled, first-le}
@@ -42,9 +42,6 @@ module _ {c : Course} {top : ℕ → ℕ} {R : ℕ → ℕ → ℕ} {done made :
   accepted x xn =
       omega (arith, T .settled .lists .early x xn, row-le (T .size) (u .al x) l ln, T .columns l ln .within x xn, ap (λ (f : ℕ → ℕ). f x) row)
 
-  expected : (x : ℕ) → Index (c .n) x → v .req x ≤ top x
-  expected x xn = subst (λ (f : ℕ → ℕ). f x ≤ top x) (sym row) (I .high l x ln xn)
-
   -- some message of x that u has pre-acknowledged expects more than p; v knows of it
   seen : (x : ℕ) → Index (c .n) x → p .seq < v .al (p .src) x
   seen x xn =
@@ -52,7 +49,7 @@ module _ {c : Course} {top : ℕ → ℕ} {R : ℕ → ℕ → ℕ} {done made :
       (λ e h. absurd (omega (arith, holds .sent .low)))
       (λ s e low h. omega (
         arith,
-        said-all x xn H (v .req x) (expected x xn) s (p .src) low (omega (arith, accepted x xn)) (holds .sent .index),
+        said-all x xn H (v .req x) (row-high I ln row x xn) s (p .src) low (omega (arith, accepted x xn)) (holds .sent .index),
         Y .columns x xn .reaches (p .src) (holds .sent .index),
       ))
       (subst (λ y. p .seq < y) (T .settled .lists .pal (p .src) x (holds .sent .index) xn) (firm x xn))
@@ -88,19 +85,16 @@ module _ {c : Course} {top : ℕ → ℕ} {R : ℕ → ℕ → ℕ} {done made :
 module _ {c : Course} {top : ℕ → ℕ} {R : ℕ → ℕ → ℕ} {done : List Place} {u : Part} (H : Spoken c top) (I : Numbers c top R) (C : Closed c top R)
     (N : Window c top) (size : u .n ≡ c .n) (W : Told c u) (S : Settled c top done u) (i : ℕ) (inn : Index (c .n) i) (row : u .req ≡ R i)
     (k : ℕ) (kn : Index (c .n) k) where
-  expected : (x : ℕ) → Index (c .n) x → u .req x ≤ top x
-  expected x xn = subst (λ (f : ℕ → ℕ). f x ≤ top x) (sym row) (I .high i x inn xn)
-
   -- when the last accepted message of k was sent, k knew no more of x than u does
   near : c .first k < u .req k → (x : ℕ) → Index (c .n) x → u .req k - c .w ≤ u .al k x
   near h x xn =
-      omega (arith, N .near k s x sent xn, W .told x xn .says k kn, said-mono x xn H (ackOf (c .msg k s) x) (u .req x) (expected x xn) known k kn)
+      omega (arith, N .near k s x sent xn, W .told x xn .says k kn, said-mono x xn H (ackOf (c .msg k s) x) (u .req x) (row-high I inn row x xn) known k kn)
     where
       s : ℕ
       s = u .req k - 1
 
       sent : Sent c top k s
-      sent = record { index = kn; low = omega arith; high = omega (arith, expected k kn) }
+      sent = record { index = kn; low = omega arith; high = omega (arith, row-high I inn row k kn) }
 
       known : ackOf (c .msg k s) x ≤ u .req x
       known =

@@ -14,7 +14,7 @@ use Rattle.rules.proofs.KeptLaws.{settled-rest}
 use Rattle.group.specs.Runs.{Index}
 use Rattle.group.proofs.All.{all-map}
 use Rattle.group.proofs.Course.{Course, Sent, ackOf}
-use Rattle.group.proofs.Numbers.{Numbers, Spoken, Closed}
+use Rattle.group.proofs.Numbers.{Numbers, Spoken, Closed, row-high}
 use Rattle.group.proofs.Growth.{bumped, sent-bumped, grown, grown-up, grown-same, Next, numbers-accepted, closed-accepted}
 use Rattle.group.proofs.Columns.{Column, Says, column-message, says-message, column-more, row-le, row-glb}
 use Rattle.group.proofs.Lists.{Holds, Part, part, Lists}
@@ -110,7 +110,7 @@ module _ {c : Course} {top : ℕ → ℕ} {R : ℕ → ℕ → ℕ} {i j : ℕ} 
   stored-knows =
       record {
         size = T .size;
-        high = λ x xn. subst (λ (f : ℕ → ℕ). f x ≤ top x) (sym stored-req) (numbers-accepted A I .high i x (A .index) xn);
+        high = row-high (numbers-accepted A I) (A .index) stored-req;
         low = λ x xn.
             le-trans (row-le (T .size) (stored u p .al x) i (A .index))
             (subst (λ (f : ℕ → ℕ). stored u p .al x i ≤ f x) (sym stored-req) (stored-columns i (A .index) .within x xn));

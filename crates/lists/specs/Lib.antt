@@ -1,0 +1,3 @@
+-- What the functions on the order of places give, exactly.
+pub mod Order
+pub mod Settle

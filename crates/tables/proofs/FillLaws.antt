@@ -1,0 +1,42 @@
+-- Filling a list from its front: the first q entries are f of their index, the others as they were.
+use mathlib.Core.Path.{_≡_, refl, sym, ap, subst, _∙_}
+use mathlib.Core.List.{List, [], _∷_, _++_, append-assoc, append-nil}
+use Prim.Native.Nat.{ℕ, zero, suc, _+_, _≤_, _<_}
+use native.Mathlib.Omega.{arith}
+use native.Mathlib.Numerals.{add-one}
+use native.Mathlib.Nat.{zero-add}
+use lib.ListN.{length, getD, drop, set, drop-of-length-le}
+use lib.Seq.{drop-cons, set-at}
+use Rattle.rules.specs.Maps.{listed}
+use Rattle.rules.proofs.MapsLaws.{length-listed}
+
+listed-snoc : (a m : ℕ) (f : ℕ → ℕ) → listed a (suc m) f ≡ listed a m f ++ (f (a + m) ∷ [])
+listed-snoc a zero f = ap (λ (i : ℕ). f i ∷ []) (let e : a ≡ a + 0 = omega arith in e)
+listed-snoc a (suc m) f =
+    ap (λ (l : List ℕ). f a ∷ l)
+    (listed-snoc (suc a) m f ∙ ap (λ (i : ℕ). listed (suc a) m f ++ (f i ∷ [])) (let e : suc a + m ≡ a + suc m = omega arith in e))
+
+module _ (t : List ℕ) (f : ℕ → ℕ) where
+  abbrev pub filled : ℕ → List ℕ
+  filled q = listed 0 q f ++ drop q t
+
+  filled-more : (q : ℕ) → listed 0 q f ++ (f q ∷ drop (suc q) t) ≡ filled (q + 1)
+  filled-more q =
+      sym (append-assoc (listed 0 q f) (f q ∷ []) (drop (suc q) t))
+      ∙ ap (λ (i : ℕ). (listed 0 q f ++ (f i ∷ [])) ++ drop (suc q) t) (sym (zero-add q))
+      ∙ ap (λ (l : List ℕ). l ++ drop (suc q) t) (sym (listed-snoc 0 q f))
+      ∙ ap (λ (i : ℕ). listed 0 i f ++ drop i t) (sym (add-one q))
+
+  pub filled-set : (q x : ℕ) → q < length t → x ≡ f q → set (filled q) q x ≡ filled (q + 1)
+  filled-set q x h e =
+      ap (λ (l : List ℕ). set (listed 0 q f ++ l) q x) (drop-cons t q 0 h)
+      ∙ set-at (listed 0 q f) (getD t q 0) (drop (suc q) t) x q (length-listed 0 q f)
+      ∙ ap (λ (y : ℕ). listed 0 q f ++ (y ∷ drop (suc q) t)) e
+      ∙ filled-more q
+
+  pub filled-skip : (q : ℕ) → q < length t → getD t q 0 ≡ f q → filled q ≡ filled (q + 1)
+  filled-skip q h e =
+      ap (λ (l : List ℕ). listed 0 q f ++ l) (drop-cons t q 0 h ∙ ap (λ (y : ℕ). y ∷ drop (suc q) t) e) ∙ filled-more q
+
+  pub filled-end : (q : ℕ) → length t ≤ q → filled q ≡ listed 0 q f
+  filled-end q h = ap (λ (l : List ℕ). listed 0 q f ++ l) (drop-of-length-le t h) ∙ append-nil (listed 0 q f)

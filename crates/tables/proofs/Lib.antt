@@ -1,0 +1,4 @@
+-- Laws that the proofs of the functions cite.
+pub mod EveryLaws
+pub mod FillLaws
+pub mod RowLaws

@@ -1,0 +1,2 @@
+-- What the functions on rows and tables give.
+pub mod Rows

@@ -52,22 +52,22 @@ freeOf o j most = firstFree (map slotOf (only (isOf j) (takens o))) 0 most
 unfoldable pub withLast : Order → ℕ → Order
 withLast o p =
     cond (ltb (total o) 128)
-    (record
-    { pal = o .pal
-    ; list = set (o .list) (total o) p
-    ; confirmed = o .confirmed
-    ; ordered = o .ordered
-    ; waiting = o .waiting + 1
+    (record {
+      pal = o .pal;
+      list = set (o .list) (total o) p;
+      confirmed = o .confirmed;
+      ordered = o .ordered;
+      waiting = o .waiting + 1;
     })
     o
 
 unfoldable pub withoutFirst : Order → Order
 withoutFirst o =
     cond (eqb (o .confirmed) 0) o
-    (record
-    { pal = o .pal
-    ; list = drop 1 (o .list) ++ (0 ∷ [])
-    ; confirmed = o .confirmed - 1
-    ; ordered = o .ordered
-    ; waiting = o .waiting
+    (record {
+      pal = o .pal;
+      list = drop 1 (o .list) ++ (0 ∷ []);
+      confirmed = o .confirmed - 1;
+      ordered = o .ordered;
+      waiting = o .waiting;
     })

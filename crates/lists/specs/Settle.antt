@@ -31,12 +31,12 @@ comesTo l a b = take a l ++ (getD l b 0 ∷ take (b - a) (drop a l)) ++ drop (su
 unfoldable pub joinedAt : Order → ℕ → List ℕ → List ℕ → Order
 joinedAt o q seqs acks =
     let p : ℕ = entry o q in
-    record
-    { pal = withColumn (o .pal) (senderOf p) (drop (8 * p) acks)
-    ; list = comesTo (o .list) (o .confirmed + before o seqs acks p) q
-    ; confirmed = o .confirmed
-    ; ordered = o .ordered + 1
-    ; waiting = o .waiting - 1
+    record {
+      pal = withColumn (o .pal) (senderOf p) (drop (8 * p) acks);
+      list = comesTo (o .list) (o .confirmed + before o seqs acks p) q;
+      confirmed = o .confirmed;
+      ordered = o .ordered + 1;
+      waiting = o .waiting - 1;
     }
 
 -- of the waiting places from index q on, m of them, those of sender j in turn, while they are below low
@@ -62,12 +62,12 @@ readyAt o seqs n =
 
 abbrev pub confirmedOne : Order → Order
 confirmedOne o =
-    record
-    { pal = o .pal
-    ; list = o .list
-    ; confirmed = o .confirmed + 1
-    ; ordered = o .ordered - 1
-    ; waiting = o .waiting
+    record {
+      pal = o .pal;
+      list = o .list;
+      confirmed = o .confirmed + 1;
+      ordered = o .ordered - 1;
+      waiting = o .waiting;
     }
 
 -- at most m of the ordered places, from the head on

@@ -4,7 +4,6 @@ mod confirm;
 mod preack;
 
 use tables;
-
 ghost use mathlib.Core.Path.{_≡_};
 ghost use lib.ListN.{length};
 ghost use Rattle.lists.specs.Order.{isOf, only, total, takens, freeOf, withLast, withoutFirst};

@@ -1,8 +1,7 @@
 // Pre-acknowledge: the waiting places whose messages all units have join the ordered ones.
-use crate::taken;
 use crate::Order;
+use crate::taken;
 use tables;
-
 ghost use mathlib.Core.Path.{_≡_};
 ghost use Prim.Native.Nat.{_+_, _-_, _≤_, _<_};
 ghost use Rattle.lists.specs.Order.{total, entry};

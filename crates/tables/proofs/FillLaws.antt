@@ -38,5 +38,8 @@ module _ (t : List ℕ) (f : ℕ → ℕ) where
   filled-skip q h e =
       ap (λ (l : List ℕ). listed 0 q f ++ l) (drop-cons t q 0 h ∙ ap (λ (y : ℕ). y ∷ drop (suc q) t) e) ∙ filled-more q
 
-  pub filled-end : (q : ℕ) → length t ≤ q → filled q ≡ listed 0 q f
-  filled-end q h = ap (λ (l : List ℕ). listed 0 q f ++ l) (drop-of-length-le t h) ∙ append-nil (listed 0 q f)
+  pub filled-end : (n q : ℕ) → length t ≡ n → q ≡ n → filled q ≡ listed 0 n f
+  filled-end n q h e =
+      ap (λ (i : ℕ). listed 0 i f ++ drop i t) e
+      ∙ ap (λ (l : List ℕ). listed 0 n f ++ l) (drop-of-length-le t (let all : length t ≤ n = omega arith in all))
+      ∙ append-nil (listed 0 n f)

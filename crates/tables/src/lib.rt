@@ -163,12 +163,9 @@ pub fn column_of(t: &[u32], j: u8) -> [u32; 8]
     ensures { λ r. ⌜ r ≡ columnOf (now (t .entry)) j ⌝ }
 {
     let mut a = [0u32; 8];
-    if j == 0 {
-        return a;
-    }
     let mut k: usize = 0;
     while k < 8 {
-        a[k] = get(t, 8 * k + (j as usize - 1));
+        a[k] = at(tail(t, 8 * k), j);
         k = k + 1;
     }
     a

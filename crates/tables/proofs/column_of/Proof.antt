@@ -1,63 +1,64 @@
+use mathlib.Core.List.{List}
+use mathlib.Core.Path.{_≡_, ap, _∙_}
+use Prim.Native.Nat.{ℕ, _*_, _-_, _≤_}
+use native.Mathlib.Omega.{arith}
+use lib.ListN.{length, drop, set}
 use borrow.Author.Needs.{needs}
+use Rattle.rules.specs.Maps.{at}
+use Rattle.tables.specs.Rows.{columnOf}
+use Rattle.tables.proofs.FillLaws.{filled, filled-set, filled-end}
 use Rattle.tables.proofs.column_of.Statement.{statement}
 use Rattle.tables.proofs.column_of.Tie as tie
-use Rattle.tables.proofs.column_of.Reads as reads
-use Rattle.tables.proofs.column_of.Lts as lts
-use Rattle.tables.proofs.get.Reads as get-reads
+
+abbrev cell : List ℕ → ℕ → ℕ → ℕ
+cell t j k = at (drop (8 * k) t) j
 
 abbrev Inv-loop : tie.InvT-loop
-Inv-loop t j a₀ k₀ a k = ?
+Inv-loop t j a₀ k₀ a k = ((k ≤ 8) × (length a₀ ≡ 8)) × (a ≡ filled a₀ (cell t j) k)
 
 abbrev μ-loop : tie.MeasureT-loop
-μ-loop t j a₀ k₀ a k = ?
+μ-loop t j a₀ k₀ a k = 8 - k
 
--- src/lib.rt:157:9
-returns : tie.Need-returns Inv-loop μ-loop
-returns c = search needs
-
--- src/lib.rt:160:5
 loop-holds : tie.Need-loop-holds Inv-loop μ-loop
 loop-holds c = search needs
 
--- src/lib.rt:161:23
-mul-get : tie.Need-mul-get Inv-loop μ-loop
-mul-get c = search needs
+mul-tail : tie.Need-mul-tail Inv-loop μ-loop
+mul-tail c = search needs
 
--- src/lib.rt:161:32
-sub-get : tie.Need-sub-get Inv-loop μ-loop
-sub-get c = search needs
+tail-requires : tie.Need-tail-requires Inv-loop μ-loop
+tail-requires c κs = search needs
 
--- src/lib.rt:161:23
-add-get : tie.Need-add-get Inv-loop μ-loop
-add-get c = search needs
+at-requires : tie.Need-at-requires Inv-loop μ-loop
+at-requires c κs = search needs
 
--- src/lib.rt:161:16
-get-requires : tie.Need-get-requires Inv-loop μ-loop
-get-requires c κs = search needs
-
--- src/lib.rt:161:9
 mul-a : tie.Need-mul-a Inv-loop μ-loop
 mul-a c = search needs
 
--- src/lib.rt:161:9
 array-write-a : tie.Need-array-write-a Inv-loop μ-loop
 array-write-a c = search needs
 
--- src/lib.rt:162:13
 add-k : tie.Need-add-k Inv-loop μ-loop
 add-k c = search needs
 
--- src/lib.rt:160:5
 loop-less : tie.Need-loop-less Inv-loop μ-loop
 loop-less c = search needs
 
--- src/lib.rt:160:5
 loop-again : tie.Need-loop-again Inv-loop μ-loop
-loop-again c = search needs
+loop-again c =
+    let q = c .before .before .before in
+    let s = q .before .before .args in
+    let k = q .loop .k in (
+      search needs,
+      ap (λ (l : List ℕ). set l k (c .at .result)) (q .loop .inv .1) ∙ filled-set _ (cell (s .t .now) (s .j)) k (c .at .result) (omega arith)
+          (c .at .ensures ∙ ap (λ (l : List ℕ). at l (s .j)) (c .before .tail .ensures)),
+    )
 
--- src/lib.rt:152:1
-returns-2 : tie.Need-returns-2 Inv-loop μ-loop
-returns-2 c = search needs
+returns : tie.Need-returns Inv-loop μ-loop
+unfolding columnOf
+returns c =
+    let q = c .before in
+    let s = q .before .before .args in
+    q .loop .inv .1 ∙ filled-end _ (cell (s .t .now) (s .j)) 8 (q .loop .k) (omega arith) (omega arith)
 
 pub column-of-spec : {M : Type 1} → statement M
 column-of-spec =
@@ -65,15 +66,13 @@ column-of-spec =
     (tie.spec
     Inv-loop
     μ-loop
-    returns
     loop-holds
-    mul-get
-    sub-get
-    add-get
-    get-requires
+    mul-tail
+    tail-requires
+    at-requires
     mul-a
     array-write-a
     add-k
     loop-less
     loop-again
-    returns-2)
+    returns)

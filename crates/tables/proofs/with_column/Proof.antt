@@ -1,51 +1,65 @@
+use mathlib.Core.Bool.{cond}
+use mathlib.Core.List.{List}
+use mathlib.Core.Logic.{⊎-elim}
+use mathlib.Core.Path.{_≡_, refl, sym, ap, _∙_}
+use Prim.Native.Nat.{ℕ, _+_, _-_, _/_, _%_, _≤_}
+use native.Mathlib.Omega.{arith}
+use lib.Dec.{eqb}
+use lib.ListN.{length, getD, set}
 use borrow.Author.Needs.{needs}
+use borrow.Author.Tests.{eq-eqb, ne-eqb}
+use Rattle.tables.specs.Rows.{withColumn}
+use Rattle.tables.proofs.FillLaws.{filled, filled-set, filled-skip, filled-end}
 use Rattle.tables.proofs.with_column.Statement.{statement}
 use Rattle.tables.proofs.with_column.Tie as tie
-use Rattle.tables.proofs.with_column.Reads as reads
-use Rattle.tables.proofs.with_column.Lts as lts
-use Rattle.tables.proofs.get.Reads as get-reads
+
+abbrev cell : List ℕ → ℕ → List ℕ → ℕ → ℕ
+cell t j v q = cond (eqb (q % 8 + 1) j) (getD v (q / 8) 0) (getD t q 0)
 
 abbrev Inv-loop : tie.InvT-loop
-Inv-loop j v b₀ c q₀ b q = ?
+Inv-loop j v b₀ c q₀ b q = ((q ≤ 64) × (length b₀ ≡ 64)) × (b ≡ filled b₀ (cell b₀ j v) q)
 
 abbrev μ-loop : tie.MeasureT-loop
-μ-loop j v b₀ c q₀ b q = ?
+μ-loop j v b₀ c q₀ b q = 64 - q
 
--- src/lib.rt:142:5
 loop-holds : tie.Need-loop-holds Inv-loop μ-loop
 loop-holds c = search needs
 
--- src/lib.rt:143:12
 add-if1 : tie.Need-add-if1 Inv-loop μ-loop
 add-if1 c = search needs
 
--- src/lib.rt:144:20
 get-requires : tie.Need-get-requires Inv-loop μ-loop
 get-requires c κs = search needs
 
--- src/lib.rt:144:13
 mul-b : tie.Need-mul-b Inv-loop μ-loop
 mul-b c = search needs
 
--- src/lib.rt:144:13
 array-write-b : tie.Need-array-write-b Inv-loop μ-loop
 array-write-b c = search needs
 
--- src/lib.rt:146:13
 add-q : tie.Need-add-q Inv-loop μ-loop
 add-q c = search needs
 
--- src/lib.rt:142:5
 loop-less : tie.Need-loop-less Inv-loop μ-loop
 loop-less c = search needs
 
--- src/lib.rt:142:5
 loop-again : tie.Need-loop-again Inv-loop μ-loop
-loop-again c = search needs
+loop-again c =
+    let q = c .before .before in
+    let s = q .before .before .args in
+    let i = q .loop .q in
+    let f = cell (s .t) (s .j) (s .v .now) in (
+      search needs,
+      ⊎-elim (λ w. w .2 ∙ ap (λ (l : List ℕ). set l i (w .1 .result)) (q .loop .inv .1) ∙ filled-set (s .t) f i (w .1 .result) (omega arith) (rw (eq-eqb (i % 8 + 1) (s .j) (w .0 .taken)) (w .1 .ensures)))
+          (λ w. w .1 ∙ q .loop .inv .1 ∙ filled-skip (s .t) f i (omega arith) (rw (ne-eqb (i % 8 + 1) (s .j) (w .0 .left)))) (c .if1 .came),
+    )
 
--- src/lib.rt:136:1
 returns : tie.Need-returns Inv-loop μ-loop
-returns c = search needs
+unfolding withColumn
+returns c =
+    let q = c .before in
+    let s = q .before .before .args in
+    q .loop .inv .1 ∙ filled-end (s .t) (cell (s .t) (s .j) (s .v .now)) 64 (q .loop .q) (omega arith) (omega arith)
 
 pub with-column-spec : {M : Type 1} → statement M
 with-column-spec =

@@ -3,7 +3,7 @@ use mathlib.Core.Bool.{Bool, true, false, cond}
 use mathlib.Core.List.{List, [], _∷_, _++_, map}
 use Prim.Native.Nat.{ℕ, suc, _+_, _-_, _/_, _%_}
 use lib.Dec.{eqb, ltb}
-use lib.ListN.{getD, drop, set}
+use lib.ListN.{getD, drop, set, replicate}
 use Rattle.rules.specs.Maps.{listed}
 use Rattle.rules.specs.Steps.{firstFree}
 use Rattle.lists.specs.declared.Order.{Order}
@@ -45,9 +45,21 @@ takens o = listed 0 (total o) (entry o)
 abbrev pub past : Order → List ℕ
 past o = drop (total o) (o .list)
 
+-- the marks, with those at these indices set
+abbrev pub marked : List Bool → List ℕ → List Bool
+marked m [] = m
+marked m (k ∷ l) = marked (set m k true) l
+
+-- the slots of j's that are taken, and the marks of all sixteen
+abbrev pub slotsIn : ℕ → List ℕ → List ℕ
+slotsIn j l = map slotOf (only (isOf j) l)
+
+unfoldable pub slotsOf : Order → ℕ → List Bool
+slotsOf o j = marked (replicate 16 false) (slotsIn j (takens o))
+
 -- the first of j's slots below most that is free, else most
 unfoldable pub freeOf : Order → ℕ → ℕ → ℕ
-freeOf o j most = firstFree (map slotOf (only (isOf j) (takens o))) 0 most
+freeOf o j most = firstFree (slotsIn j (takens o)) 0 most
 
 unfoldable pub withLast : Order → ℕ → Order
 withLast o p =

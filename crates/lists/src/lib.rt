@@ -5,8 +5,9 @@ mod preack;
 
 use tables;
 ghost use mathlib.Core.Path.{_≡_};
-ghost use lib.ListN.{length};
-ghost use Rattle.lists.specs.Order.{isOf, only, total, takens, freeOf, withLast, withoutFirst};
+ghost use mathlib.Core.List.{[], _∷_, _++_};
+ghost use lib.ListN.{length, drop};
+ghost use Rattle.lists.specs.Order.{isOf, only, total, takens, slotsOf, freeOf, withLast, withoutFirst};
 ghost use Rattle.lists.specs.Settle.{settledOf};
 
 // PAL, and the taken places: the confirmed ones, then the ordered, then the waiting.
@@ -42,7 +43,9 @@ pub fn taken_of(o: Order, j: u8) -> usize
 }
 
 // Which of the sixteen slots of sender j are taken.
-fn slots(o: Order, j: u8) -> [bool; 16] {
+fn slots(o: Order, j: u8) -> [bool; 16]
+    ensures { λ r. ⌜ r ≡ slotsOf o j ⌝ }
+{
     let mut marks = [false; 16];
     let end = taken(o);
     let mut q: usize = 0;
@@ -88,22 +91,36 @@ pub fn with_last(o: Order, p: u8) -> Order
     r
 }
 
-// Without the oldest confirmed place: the others move down by one.
+// Each entry moves down by one, and a 0 comes last.
+fn shifted(list: [u8; 128]) -> [u8; 128]
+    ensures { λ r. ⌜ r ≡ drop 1 list ++ (0 ∷ []) ⌝ }
+{
+    let mut l = list;
+    let mut q: usize = 0;
+    while q < 128 {
+        l[q] = tables::byte(&list, q + 1);
+        q = q + 1;
+    }
+    l
+}
+
+// Without the oldest confirmed place.
 pub fn without_first(o: Order) -> Order
     ensures { λ r. ⌜ r ≡ withoutFirst o ⌝ }
 {
     if o.confirmed == 0 {
         return o;
     }
-    let mut r = o;
-    let mut q: usize = 0;
-    while q < 127 {
-        r.list[q] = o.list[q + 1];
-        q = q + 1;
+    let pal = o.pal;
+    let list = o.list;
+    let rest = shifted(list);
+    Order {
+        pal: pal,
+        list: rest,
+        confirmed: o.confirmed - 1,
+        ordered: o.ordered,
+        waiting: o.waiting,
     }
-    r.list[127] = 0;
-    r.confirmed = o.confirmed - 1;
-    r
 }
 
 // Pre-acknowledges and confirms what can be. An order that says it has more places than there are is left alone.

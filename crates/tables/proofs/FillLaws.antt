@@ -9,12 +9,7 @@ use lib.ListN.{length, getD, drop, set, drop-of-length-le}
 use lib.Seq.{drop-cons, set-at}
 use Rattle.rules.specs.Maps.{listed}
 use Rattle.rules.proofs.MapsLaws.{length-listed}
-
-listed-snoc : (a m : ℕ) (f : ℕ → ℕ) → listed a (suc m) f ≡ listed a m f ++ (f (a + m) ∷ [])
-listed-snoc a zero f = ap (λ (i : ℕ). f i ∷ []) (let e : a ≡ a + 0 = omega arith in e)
-listed-snoc a (suc m) f =
-    ap (λ (l : List ℕ). f a ∷ l)
-    (listed-snoc (suc a) m f ∙ ap (λ (i : ℕ). listed (suc a) m f ++ (f i ∷ [])) (let e : suc a + m ≡ a + suc m = omega arith in e))
+use Rattle.tables.proofs.ListedLaws.{listed-snoc}
 
 module _ (t : List ℕ) (f : ℕ → ℕ) where
   abbrev pub filled : ℕ → List ℕ
@@ -25,7 +20,7 @@ module _ (t : List ℕ) (f : ℕ → ℕ) where
       sym (append-assoc (listed 0 q f) (f q ∷ []) (drop (suc q) t))
       ∙ ap (λ (i : ℕ). (listed 0 q f ++ (f i ∷ [])) ++ drop (suc q) t) (sym (zero-add q))
       ∙ ap (λ (l : List ℕ). l ++ drop (suc q) t) (sym (listed-snoc 0 q f))
-      ∙ ap (λ (i : ℕ). listed 0 i f ++ drop i t) (sym (add-one q))
+      ∙ ap (λ (i : ℕ). listed 0 (q + 1) f ++ drop i t) (sym (add-one q))
 
   pub filled-set : (q x : ℕ) → q < length t → x ≡ f q → set (filled q) q x ≡ filled (q + 1)
   filled-set q x h e =

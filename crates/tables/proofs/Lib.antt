@@ -1,4 +1,5 @@
 -- Laws that the proofs of the functions cite.
 pub mod EveryLaws
 pub mod FillLaws
+pub mod ListedLaws
 pub mod RowLaws

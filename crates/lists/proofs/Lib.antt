@@ -4,4 +4,5 @@ pub mod ConfirmLaws
 pub mod EntryLaws
 pub mod IndexLaws
 pub mod OnlyLaws
+pub mod PreackLaws
 pub mod SlotLaws

@@ -40,9 +40,11 @@ loop-again : tie.Need-loop-again Inv-loop μ-loop
 loop-again c =
     let q = c .before .before .before in
     let list = q .before .args .t1 in
-    let i = q .loop .q in
-    (search needs, ap (λ (l : List ℕ). set l i (c .byte .result)) (q .loop .inv .1)
-    ∙ filled-set list (λ i. getD list (i + 1) 0) i (c .byte .result) (omega arith) (c .byte .ensures))
+    let i = q .loop .q in (
+      search needs,
+      ap (λ (l : List ℕ). set l i (c .byte .result)) (q .loop .inv .1)
+          ∙ filled-set list (λ i. getD list (i + 1) 0) i (c .byte .result) (omega arith) (c .byte .ensures),
+    )
 
 returns : tie.Need-returns Inv-loop μ-loop
 returns c =

@@ -53,20 +53,22 @@ loop-again c =
     let s = q .before .before .args in
     let k = q .loop .q in
     let end = q .before .taken .result in
-    let in-loop = c .before .before .before .before .before .loop-test .taken in
-    (search needs, ⊎-elim
-    (λ w.
-      let e : senderOf (entry (s .t1) k) ≡ s .j = omega arith in
-      ap (λ (m : List Bool). marked m (slotsIn (s .j) (listed (k + 1) (end - (k + 1)) (entry (s .t1)))))
-      (w .1 ∙ ap (λ (p : ℕ). set (q .loop .marks) (slotOf p) true) (c .before .byte .ensures))
-      ∙ sym (ap (λ (l : List ℕ). marked (q .loop .marks) (map slotOf l)) (only-more (isOf (s .j)) (entry (s .t1)) k end in-loop (eq-eqb _ _ e)))
-      ∙ q .loop .inv .1)
-    (λ w.
-      let d : senderOf (entry (s .t1) k) ≢ s .j = omega arith in
-      ap (λ (m : List Bool). marked m (slotsIn (s .j) (listed (k + 1) (end - (k + 1)) (entry (s .t1))))) (w .1)
-      ∙ sym (ap (λ (l : List ℕ). marked (q .loop .marks) (map slotOf l)) (only-pass (isOf (s .j)) (entry (s .t1)) k end in-loop (ne-eqb _ _ d)))
-      ∙ q .loop .inv .1)
-    (c .if1 .came))
+    let in-loop = c .before .before .before .before .before .loop-test .taken in (
+      search needs,
+      ⊎-elim
+          (λ w.
+          let e : senderOf (entry (s .t1) k) ≡ s .j = omega arith in
+          ap (λ (m : List Bool). marked m (slotsIn (s .j) (listed (k + 1) (end - (k + 1)) (entry (s .t1)))))
+          (w .1 ∙ ap (λ (p : ℕ). set (q .loop .marks) (slotOf p) true) (c .before .byte .ensures))
+          ∙ sym (ap (λ (l : List ℕ). marked (q .loop .marks) (map slotOf l)) (only-more (isOf (s .j)) (entry (s .t1)) k end in-loop (eq-eqb _ _ e)))
+          ∙ q .loop .inv .1)
+          (λ w.
+          let d : senderOf (entry (s .t1) k) ≢ s .j = omega arith in
+          ap (λ (m : List Bool). marked m (slotsIn (s .j) (listed (k + 1) (end - (k + 1)) (entry (s .t1))))) (w .1)
+          ∙ sym (ap (λ (l : List ℕ). marked (q .loop .marks) (map slotOf l)) (only-pass (isOf (s .j)) (entry (s .t1)) k end in-loop (ne-eqb _ _ d)))
+          ∙ q .loop .inv .1)
+          (c .if1 .came),
+    )
 
 returns : tie.Need-returns Inv-loop μ-loop
 returns c =

@@ -51,13 +51,13 @@ loop-again c =
     let in-loop = c .before .before .before .before .before .loop-test .taken in
     ⊎-elim
     (λ w.
-      let e : senderOf (entry (s .t1) k) ≡ s .j = omega arith in
-      let more = ap length (only-more (isOf (s .j)) (entry (s .t1)) k (q .before .taken .result) in-loop (eq-eqb _ _ e)) in
-      omega arith)
+    let e : senderOf (entry (s .t1) k) ≡ s .j = omega arith in
+    let more = ap length (only-more (isOf (s .j)) (entry (s .t1)) k (q .before .taken .result) in-loop (eq-eqb _ _ e)) in
+    omega arith)
     (λ w.
-      let d : senderOf (entry (s .t1) k) ≢ s .j = omega arith in
-      let more = ap length (only-pass (isOf (s .j)) (entry (s .t1)) k (q .before .taken .result) in-loop (ne-eqb _ _ d)) in
-      omega arith)
+    let d : senderOf (entry (s .t1) k) ≢ s .j = omega arith in
+    let more = ap length (only-pass (isOf (s .j)) (entry (s .t1)) k (q .before .taken .result) in-loop (ne-eqb _ _ d)) in
+    omega arith)
     (c .if1 .came)
 
 returns : tie.Need-returns Inv-loop μ-loop

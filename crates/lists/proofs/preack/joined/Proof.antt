@@ -1,68 +1,75 @@
+use mathlib.Core.Path.{_≡_, ap, _∙_}
+use Prim.Native.Nat.{ℕ, _≤_}
+use native.Mathlib.Omega.{arith}
+use lib.ListN.{getD, length}
+use mir.Syntax.{w8}
+use mir.Val.{Fits}
 use borrow.Author.Needs.{needs}
+use Rattle.rules.specs.Maps.{listed}
+use Rattle.rules.proofs.MapsLaws.{length-listed}
+use Rattle.lists.specs.Order.{entry, ordereds}
+use Rattle.lists.specs.Settle.{precedesAt, before, joinedAt}
+use Rattle.lists.proofs.IndexLaws.{indexOf-le}
 use Rattle.lists.proofs.preack.joined.Statement.{statement}
 use Rattle.lists.proofs.preack.joined.Tie as tie
-use Rattle.lists.proofs.preack.joined.Reads as reads
-use Rattle.lists.proofs.preack.joined.Lts as lts
-use Rattle.lists.proofs.preack.moved.Reads as moved-reads
-use Rattle.lists.proofs.preack.spot.Reads as spot-reads
-use Rattle.tables.proofs.tail.Reads as tail-reads
-use Rattle.tables.proofs.with_column.Reads as with-column-reads
 
--- src/preack.rt:60:13
 element-copy-out-p : tie.Need-element-copy-out-p
 element-copy-out-p c = search needs
 
--- src/preack.rt:61:15
 cast-to : tie.Need-cast-to
 cast-to c = search needs
 
--- src/preack.rt:61:40
 spot-requires : tie.Need-spot-requires
 spot-requires c κs = search needs
 
--- src/preack.rt:61:40
 cast-to-2 : tie.Need-cast-to-2
 cast-to-2 c = search needs
 
--- src/preack.rt:61:14
 add-to : tie.Need-add-to
 add-to c = search needs
 
--- src/preack.rt:64:40
 cast-tail : tie.Need-cast-tail
 cast-tail c = search needs
 
--- src/preack.rt:64:35
 mul-tail : tie.Need-mul-tail
-mul-tail c = search needs
+mul-tail c =
+    let s = c .before .before .before .before .before .before .args in
+    let byte : Fits w8 (entry (s .t1) (s .q)) = search needs in
+    search needs
 
--- src/preack.rt:64:9
 tail-requires : tie.Need-tail-requires
 tail-requires c κs = search needs
 
--- src/preack.rt:65:43
 add-with-column : tie.Need-add-with-column
-add-with-column c = search needs
+add-with-column c =
+    let s = c .before .before .before .before .before .before .before .args in
+    let byte : Fits w8 (entry (s .t1) (s .q)) = search needs in
+    search needs
 
--- src/preack.rt:65:9
 with-column-requires : tie.Need-with-column-requires
 with-column-requires c κs = search needs
 
--- src/preack.rt:66:9
 moved-requires : tie.Need-moved-requires
-moved-requires c κs = search needs
+unfolding before
+moved-requires c κs =
+    let s = c .before .before .before .before .before .before .before .before .args in
+    let o = s .t1 in
+    let most = indexOf-le (precedesAt (s .seqs .now) (s .acks .now) (entry o (s .q))) (ordereds o) in
+    let long = length-listed (o .confirmed) (o .ordered) (entry o) in
+    let spot = c .before .before .before .before .spot .ensures in
+    omega arith
 
--- src/preack.rt:71:18
 add-t20 : tie.Need-add-t20
 add-t20 c = search needs
 
--- src/preack.rt:72:18
 sub-t22 : tie.Need-sub-t22
 sub-t22 c = search needs
 
--- src/preack.rt:56:1
 returns : tie.Need-returns
-returns c = search needs
+unfolding joinedAt
+returns c =
+    rw
+    (← c .before .before .before .before .before .spot .ensures, ← c .before .before .tail .ensures, ← c .before .with-column .ensures, ← c .moved .ensures)
 
 pub joined-spec : {M : Type 1} → statement M
 joined-spec =

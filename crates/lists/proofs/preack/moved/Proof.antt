@@ -39,10 +39,12 @@ loop-again c =
     let i = q .loop .i in
     let b = q .before .args .b in
     let x = getD (q .loop .l) i 0 in
-    let e : b - i ≡ suc (b - (i + 1)) = omega arith in
-    (search needs, ap (λ (k : ℕ). carried (set (q .loop .l) i (q .loop .carry)) k (b - (i + 1)) x) (add-one i)
-    ∙ sym (ap (λ (m : ℕ). carried (q .loop .l) i m (q .loop .carry)) e)
-    ∙ q .loop .inv .1)
+    let e : b - i ≡ suc (b - (i + 1)) = omega arith in (
+      search needs,
+      ap (λ (k : ℕ). carried (set (q .loop .l) i (q .loop .carry)) k (b - (i + 1)) x) (add-one i)
+          ∙ sym (ap (λ (m : ℕ). carried (q .loop .l) i m (q .loop .carry)) e)
+          ∙ q .loop .inv .1,
+    )
 
 array-write-l-2 : tie.Need-array-write-l-2 Inv-loop μ-loop
 array-write-l-2 c = search needs

@@ -1,73 +1,104 @@
+use mathlib.Core.Logic.{_≢_, ⊎-elim}
+use mathlib.Core.Path.{_≡_, refl, sym, ap, subst, _∙_}
+use Prim.Native.Nat.{ℕ, _+_, _-_, _≤_, _<_}
+use native.Mathlib.Omega.{arith}
+use lib.ListN.{getD}
 use borrow.Author.Needs.{needs}
+use borrow.Author.Tests.{eq-eqb, ne-eqb, le-leb, lt-leb}
+use Rattle.lists.specs.declared.Order.{Order}
+use Rattle.lists.specs.Order.{senderOf, entry, total}
+use Rattle.lists.specs.Settle.{joinedAt, ackedAt, ackedFrom}
+use Rattle.lists.proofs.PreackLaws.{Turn, turn-joined, turn-passed, acked-join, acked-pass, acked-stop, acked-end}
 use Rattle.lists.proofs.preack.of.Statement.{statement}
 use Rattle.lists.proofs.preack.of.Tie as tie
-use Rattle.lists.proofs.preack.of.Reads as reads
-use Rattle.lists.proofs.preack.of.Lts as lts
-use Rattle.lists.proofs.preack.joined.Reads as joined-reads
-use Rattle.lists.proofs.taken.Reads as taken-reads
-use Rattle.tables.proofs.get.Reads as get-reads
 
 abbrev Inv-loop : tie.InvT-loop
-Inv-loop j low seqs acks end o₀ q₀ o q = ?
+Inv-loop j low seqs acks end o₀ q₀ o q = Turn end q o × (ackedAt (end - q) q o j low seqs acks ≡ ackedFrom o₀ j low seqs acks)
 
 abbrev μ-loop : tie.MeasureT-loop
-μ-loop j low seqs acks end o₀ q₀ o q = ?
+μ-loop j low seqs acks end o₀ q₀ o q = end - q
 
--- src/preack.rt:81:9
 taken-requires : tie.Need-taken-requires Inv-loop μ-loop
 taken-requires c κs = search needs
 
--- src/preack.rt:83:24
 cast-q : tie.Need-cast-q Inv-loop μ-loop
 cast-q c = search needs
 
--- src/preack.rt:83:17
 sub-q : tie.Need-sub-q Inv-loop μ-loop
 sub-q c = search needs
 
--- src/preack.rt:84:5
 loop-holds : tie.Need-loop-holds Inv-loop μ-loop
-loop-holds c = search needs
+unfolding ackedFrom
+loop-holds c =
+    let s = c .before .before .before .before .args in
+    let o = s .first in
+    let end = c .before .taken .result in
+    let at-first : end - o .waiting ≡ o .confirmed + o .ordered = omega arith in
+    let all : end - (end - o .waiting) ≡ o .waiting = omega arith in (
+      omega arith,
+      ap (λ (m : ℕ). ackedAt m (end - o .waiting) o (s .j) (s .low) (s .seqs .now) (s .acks .now)) all
+          ∙ ap (λ (q : ℕ). ackedAt (o .waiting) q o (s .j) (s .low) (s .seqs .now) (s .acks .now)) at-first,
+    )
 
--- src/preack.rt:85:17
-element-copy-out-p : tie.Need-element-copy-out-p Inv-loop μ-loop
-element-copy-out-p c = search needs
+byte-requires : tie.Need-byte-requires Inv-loop μ-loop
+byte-requires c κs = search needs
 
--- src/preack.rt:86:12
 add-if1 : tie.Need-add-if1 Inv-loop μ-loop
 add-if1 c = search needs
 
--- src/preack.rt:87:41
 cast-get : tie.Need-cast-get Inv-loop μ-loop
 cast-get c = search needs
 
--- src/preack.rt:87:23
 get-requires : tie.Need-get-requires Inv-loop μ-loop
 get-requires c κs = search needs
 
--- src/preack.rt:88:17
 returns : tie.Need-returns Inv-loop μ-loop
-returns c = search needs
+returns c =
+    let q = c .before .before .before .before .before .before .before .before in
+    let s = q .before .before .before .before .before .args in
+    let k = q .loop .q in
+    let e : senderOf (entry (q .loop .o) k) ≡ s .j = omega arith in
+    let u : s .low ≤ getD (s .seqs .now) (entry (q .loop .o) k) 0 = omega (arith, ap (λ (p : ℕ). getD (s .seqs .now) p 0) (c .before .before .before .byte .ensures)) in
+    acked-stop (s .j) (s .low) (s .seqs .now) (s .acks .now) (q .loop .o) (q .before .before .taken .result) k (c .before .before .before .before .before .before .before .loop-test .taken) (eq-eqb _ _ e) (le-leb _ _ u) (q .loop .inv .1)
 
--- src/preack.rt:90:17
 joined-requires : tie.Need-joined-requires Inv-loop μ-loop
 joined-requires c κs = search needs
 
--- src/preack.rt:92:13
 add-q : tie.Need-add-q Inv-loop μ-loop
 add-q c = search needs
 
--- src/preack.rt:84:5
 loop-less : tie.Need-loop-less Inv-loop μ-loop
 loop-less c = search needs
 
--- src/preack.rt:84:5
 loop-again : tie.Need-loop-again Inv-loop μ-loop
-loop-again c = search needs
+loop-again c =
+    let q = c .before .before .before .before .before .before in
+    let s = q .before .before .before .before .before .args in
+    let k = q .loop .q in
+    let o = q .loop .o in
+    let end = q .before .before .taken .result in
+    let in-loop = c .before .before .before .before .before .loop-test .taken in
+    ⊎-elim
+    (λ w.
+    let e : senderOf (entry o k) ≡ s .j = omega arith in
+    let u : getD (s .seqs .now) (entry o k) 0 < s .low = omega (arith, ap (λ (p : ℕ). getD (s .seqs .now) p 0) (c .before .byte .ensures)) in
+    subst (λ (r : Order). Inv-loop (s .j) (s .low) (s .seqs .now) (s .acks .now) end (s .first) k r (k + 1)) (sym (w .4 ∙ w .3 .ensures)) (
+      turn-joined (s .j) (s .low) (s .seqs .now) (s .acks .now) o end k in-loop (q .loop .inv .0),
+      acked-join (s .j) (s .low) (s .seqs .now) (s .acks .now) o end k in-loop (eq-eqb _ _ e) (lt-leb _ _ u) (q .loop .inv .1),
+    ))
+    (λ w.
+    let d : senderOf (entry o k) ≢ s .j = omega arith in
+    subst (λ (r : Order). Inv-loop (s .j) (s .low) (s .seqs .now) (s .acks .now) end (s .first) k r (k + 1)) (sym (w .1)) (
+      turn-passed (s .j) (s .low) (s .seqs .now) (s .acks .now) o end k in-loop (q .loop .inv .0),
+      acked-pass (s .j) (s .low) (s .seqs .now) (s .acks .now) o end k in-loop (ne-eqb _ _ d) (q .loop .inv .1),
+    ))
+    (c .if1 .came)
 
--- src/preack.rt:77:1
 returns-2 : tie.Need-returns-2 Inv-loop μ-loop
-returns-2 c = search needs
+returns-2 c =
+    let q = c .before in
+    let s = q .before .before .before .before .before .args in
+    acked-end (s .j) (s .low) (s .seqs .now) (s .acks .now) (q .loop .o) (q .before .before .taken .result) (q .loop .q) (c .loop-test .left) (q .loop .inv .1)
 
 pub of-spec : {M : Type 1} → statement M
 of-spec =
@@ -79,7 +110,7 @@ of-spec =
     cast-q
     sub-q
     loop-holds
-    element-copy-out-p
+    byte-requires
     add-if1
     cast-get
     get-requires

@@ -4,7 +4,7 @@ use mathlib.Core.Path.{_≡_, refl, sym, ap, _∙_}
 use Prim.Native.Nat.{ℕ, zero, suc, _+_, _-_, _≤_, _<_}
 use native.Mathlib.Omega.{arith}
 use native.Mathlib.Numerals.{add-one}
-use lib.ListN.{length, getD, take, drop, set, length-set, length-take, length-drop, List·getD-append}
+use lib.ListN.{length, getD, take, drop, set, length-set, length-append, length-take, length-drop, List·getD-append}
 use lib.Seq.{length-take-le, append-snoc, set-split, take-suc-set, drop-set-lt, drop-cons, getD-append-add, getD-at, getD-take, getD-drop}
 use Rattle.lists.specs.Settle.{comesTo}
 
@@ -32,3 +32,48 @@ unfolding comesTo
 carried-comesTo l a b h k =
     let e : a + (b - a) ≡ b = omega arith in
     carried-parts l a (b - a) (getD l b 0) (omega arith) ∙ ap (λ (i : ℕ). take a l ++ (getD l b 0 ∷ take (b - a) (drop a l)) ++ drop (suc i) l) e
+
+-- ---- the entries after the move
+
+module _ (l : List ℕ) (a b : ℕ) (h : a ≤ b) (k : b < length l) where
+  abbrev front : List ℕ
+  front = take a l ++ (getD l b 0 ∷ take (b - a) (drop a l))
+
+  length-front : length (take a l) ≡ a
+  length-front = length-take-le a l (omega arith)
+
+  length-moved : length front ≡ suc b
+  length-moved = simp (length-append, length-take, length-drop) (omega arith)
+
+  pub length-comesTo : length (comesTo l a b) ≡ length l
+  unfolding comesTo
+  length-comesTo = omega (arith, length-append front (drop (suc b) l), length-moved, length-drop (suc b) l)
+
+  pub comesTo-before : (i : ℕ) → i < a → getD (comesTo l a b) i 0 ≡ getD l i 0
+  unfolding comesTo
+  comesTo-before i x =
+      List·getD-append front (drop (suc b) l) 0 i (omega (arith, length-moved))
+      ∙ List·getD-append (take a l) (getD l b 0 ∷ take (b - a) (drop a l)) 0 i (omega (arith, length-front))
+      ∙ getD-take a l i 0 x
+
+  pub comesTo-at : getD (comesTo l a b) a 0 ≡ getD l b 0
+  unfolding comesTo
+  comesTo-at =
+      List·getD-append front (drop (suc b) l) 0 a (omega (arith, length-moved))
+      ∙ getD-at (take a l) (getD l b 0) (take (b - a) (drop a l)) 0 a length-front
+
+  pub comesTo-between : (i : ℕ) → i < b - a → getD (comesTo l a b) (suc a + i) 0 ≡ getD l (a + i) 0
+  unfolding comesTo
+  comesTo-between i x =
+      List·getD-append front (drop (suc b) l) 0 (suc a + i) (omega (arith, length-moved))
+      ∙ ap (λ (m : ℕ). getD front m 0) (let e : suc a + i ≡ length (take a l) + suc i = omega (arith, length-front) in e)
+      ∙ getD-append-add (take a l) (getD l b 0 ∷ take (b - a) (drop a l)) (suc i) 0
+      ∙ getD-take (b - a) (drop a l) i 0 x
+      ∙ getD-drop a l i 0
+
+  pub comesTo-past : (i : ℕ) → getD (comesTo l a b) (suc b + i) 0 ≡ getD l (suc b + i) 0
+  unfolding comesTo
+  comesTo-past i =
+      ap (λ (m : ℕ). getD (comesTo l a b) (m + i) 0) (sym length-moved)
+      ∙ getD-append-add front (drop (suc b) l) i 0
+      ∙ getD-drop (suc b) l i 0

@@ -3,6 +3,11 @@ pub mod CarryLaws
 pub mod ConfirmLaws
 pub mod EntryLaws
 pub mod IndexLaws
+pub mod JoinLaws
 pub mod OnlyLaws
+pub mod PlaceLaws
 pub mod PreackLaws
+pub mod RearrangeLaws
+pub mod SettleLaws
+pub mod ShowLaws
 pub mod SlotLaws

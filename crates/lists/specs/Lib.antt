@@ -1,3 +1,4 @@
 -- What the functions on the order of places give, exactly.
 pub mod Order
 pub mod Settle
+pub mod View

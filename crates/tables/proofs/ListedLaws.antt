@@ -1,9 +1,12 @@
 -- Lists of f of some numbers in a row: cut, joined, compared, and read from the front.
 use mathlib.Core.Path.{_≡_, refl, sym, ap, _∙_}
 use mathlib.Core.List.{List, [], _∷_, _++_}
-use Prim.Native.Nat.{ℕ, zero, suc, _+_, _<_}
+use Prim.Native.Nat.{ℕ, zero, suc, _+_, _-_, _≤_, _<_}
 use native.Mathlib.Omega.{arith}
+use lib.ListN.{take, drop}
+use lib.Seq.{take-at, drop-at}
 use Rattle.rules.specs.Maps.{listed}
+use Rattle.rules.proofs.MapsLaws.{length-listed}
 
 pub listed-append : (a m k : ℕ) (f : ℕ → ℕ) → listed a (m + k) f ≡ listed a m f ++ listed (a + m) k f
 listed-append a zero k f =
@@ -40,3 +43,12 @@ listed-same a b (suc m) f g h =
 -- the first of those that are left, and the others
 pub listed-left : (f : ℕ → ℕ) (q r m k : ℕ) → r ≡ suc q → m ≡ suc k → listed q m f ≡ f q ∷ listed r k f
 listed-left f q r m k e h = ap (λ (i : ℕ). listed q i f) h ∙ ap (λ (i : ℕ). f q ∷ listed i k f) (sym e)
+
+pub listed-cut : (a k m : ℕ) (f : ℕ → ℕ) → k ≤ m → listed a m f ≡ listed a k f ++ listed (a + k) (m - k) f
+listed-cut a k m f h = ap (λ (i : ℕ). listed a i f) (let e : m ≡ k + (m - k) = omega arith in e) ∙ listed-append a k (m - k) f
+
+pub take-listed : (a k m : ℕ) (f : ℕ → ℕ) → k ≤ m → take k (listed a m f) ≡ listed a k f
+take-listed a k m f h = ap (take k) (listed-cut a k m f h) ∙ take-at (listed a k f) (listed (a + k) (m - k) f) k (length-listed a k f)
+
+pub drop-listed : (a k m : ℕ) (f : ℕ → ℕ) → k ≤ m → drop k (listed a m f) ≡ listed (a + k) (m - k) f
+drop-listed a k m f h = ap (drop k) (listed-cut a k m f h) ∙ drop-at (listed a k f) (listed (a + k) (m - k) f) k (length-listed a k f)

@@ -1,9 +1,8 @@
 -- Moving one entry of a list down to an earlier index, by carrying each entry to the next index.
-use mathlib.Core.List.{List, [], _∷_, _++_, append-assoc}
-use mathlib.Core.Path.{_≡_, refl, sym, ap, _∙_}
+use mathlib.Core.List.{List, [], _∷_, _++_}
+use mathlib.Core.Path.{_≡_, sym, ap, _∙_}
 use Prim.Native.Nat.{ℕ, zero, suc, _+_, _-_, _≤_, _<_}
 use native.Mathlib.Omega.{arith}
-use native.Mathlib.Numerals.{add-one}
 use lib.ListN.{length, getD, take, drop, set, length-set, length-append, length-take, length-drop, List·getD-append}
 use lib.Seq.{length-take-le, append-snoc, set-split, take-suc-set, drop-set-lt, drop-cons, getD-append-add, getD-at, getD-take, getD-drop}
 use Rattle.lists.specs.Settle.{comesTo}

@@ -1,7 +1,7 @@
 -- The three lists after a waiting place has joined the ordered ones.
 use mathlib.Core.Bool.{Bool}
-use mathlib.Core.List.{List, [], _∷_, _++_}
-use mathlib.Core.Path.{_≡_, refl, sym, ap, _∙_}
+use mathlib.Core.List.{List, _∷_, _++_}
+use mathlib.Core.Path.{_≡_, sym, ap, _∙_}
 use Prim.Native.Nat.{ℕ, suc, _+_, _-_, _≤_, _<_}
 use native.Mathlib.Omega.{arith}
 use lib.ListN.{length}
@@ -10,7 +10,7 @@ use Rattle.rules.proofs.MapsLaws.{length-listed}
 use Rattle.tables.proofs.ListedLaws.{listed-append, listed-same}
 use Rattle.lists.specs.declared.Order.{Order}
 use Rattle.lists.specs.Order.{only, total, entry, confirmeds, ordereds, waitings, takens}
-use Rattle.lists.specs.Settle.{precedesAt, before, comesTo, joinedAt}
+use Rattle.lists.specs.Settle.{precedesAt, before, joinedAt}
 use Rattle.lists.proofs.CarryLaws.{length-comesTo, comesTo-before, comesTo-at, comesTo-between, comesTo-past}
 use Rattle.lists.proofs.IndexLaws.{indexOf-le}
 use Rattle.lists.proofs.OnlyLaws.{count-move}
@@ -69,10 +69,10 @@ module _ (o : Order) (q : ℕ) (seqs acks : List ℕ) (h : Waits o q) where
   joined-between a m x y =
       listed-same (suc a) a m (entry joined) (entry o)
       (λ i z.
-        let d : ℕ = a - (o .confirmed + spot) + i in
-        ap (entry joined) (let e : suc a + i ≡ suc (o .confirmed + spot) + d = omega arith in e)
-        ∙ entry-between d (omega arith)
-        ∙ ap (entry o) (let e : o .confirmed + spot + d ≡ a + i = omega arith in e))
+      let d : ℕ = a - (o .confirmed + spot) + i in
+      ap (entry joined) (let e : suc a + i ≡ suc (o .confirmed + spot) + d = omega arith in e)
+      ∙ entry-between d (omega arith)
+      ∙ ap (entry o) (let e : o .confirmed + spot + d ≡ a + i = omega arith in e))
 
   pub joined-past : (m : ℕ) → listed (suc q) m (entry joined) ≡ listed (suc q) m (entry o)
   joined-past m = listed-same (suc q) (suc q) m (entry joined) (entry o) (λ i x. entry-past i)

@@ -1,5 +1,6 @@
 -- Laws that the proofs of the functions cite, and what the functions mean in the rules.
 pub mod CarryLaws
+pub mod ChangeLaws
 pub mod ConfirmLaws
 pub mod EntryLaws
 pub mod IndexLaws
@@ -11,3 +12,4 @@ pub mod RearrangeLaws
 pub mod SettleLaws
 pub mod ShowLaws
 pub mod SlotLaws
+pub mod TakenLaws

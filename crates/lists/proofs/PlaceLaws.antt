@@ -1,19 +1,17 @@
 -- Place numbers, and the places of the rules that they stand for.
 use mathlib.Core.Bool.{Bool, true, false, cond, not, _&&_, _||_}
 use mathlib.Core.List.{List, [], _∷_, _++_, map}
-use mathlib.Core.Logic.{_≢_}
-use mathlib.Core.Path.{_≡_, refl, sym, ap, _∙_}
+use mathlib.Core.Path.{_≡_, refl, ap, _∙_}
 use Prim.Native.Nat.{ℕ, zero, suc, _+_, _-_, _*_, _/_, _≤_, _<_}
 use native.Mathlib.Omega.{arith}
 use lib.Dec.{eqb, ltb}
 use lib.ListN.{getD, take, drop}
-use borrow.Author.Tests.{eq-eqb, ne-eqb}
+use borrow.Author.Tests.{eq-eqb}
 use Rattle.rules.specs.Maps.{all, among, at, listed}
 use Rattle.rules.specs.State.{Place, from}
 use Rattle.rules.specs.Steps.{precedes, insert}
 use Rattle.rules.specs.Sound.{samePlace}
 use Rattle.rules.proofs.MapsLaws.{Eq?, same, other, eq?}
-use Rattle.tables.specs.Rows.{part}
 use Rattle.tables.proofs.GridLaws.{at-part}
 use Rattle.lists.specs.Order.{senderOf, slotOf, isOf, only, slotsIn}
 use Rattle.lists.specs.Settle.{precedesAt, indexOf}

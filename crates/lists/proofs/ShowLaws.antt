@@ -1,25 +1,24 @@
 -- What one step on the order of places shows: the rules' step on the state.
-use mathlib.Core.Bool.{Bool, true, false, cond}
+use mathlib.Core.Bool.{Bool, cond}
 use mathlib.Core.List.{List, [], _∷_, _++_, map, tail, cons≢nil, map-append}
-use mathlib.Core.Path.{_≡_, refl, sym, ap, subst, _∙_}
-use Prim.Native.Nat.{ℕ, zero, suc, _+_, _-_, _*_, _≤_, _<_}
+use mathlib.Core.Path.{_≡_, sym, ap, _∙_}
+use Prim.Native.Nat.{ℕ, suc, _+_, _-_, _*_, _≤_, _<_}
 use native.Mathlib.Omega.{arith}
-use lib.Dec.{eqb}
-use lib.ListN.{length, getD, take, drop}
+use lib.ListN.{drop}
 use borrow.Author.Tests.{eq-eqb}
 use Rattle.rules.specs.Maps.{at, column, listed}
 use Rattle.rules.specs.State.{Place, State, from}
 use Rattle.rules.specs.Steps.{insert, withoutOldest, preacked, moved}
 use Rattle.rules.proofs.MapsLaws.{Eq?, same, other, eq?}
-use Rattle.tables.specs.Rows.{part, grid}
+use Rattle.tables.specs.Rows.{grid}
 use Rattle.tables.proofs.GridLaws.{grid-column}
 use Rattle.tables.proofs.ListedLaws.{listed-left, listed-snoc, take-listed, drop-listed}
 use Rattle.lists.specs.declared.Order.{Order}
-use Rattle.lists.specs.Order.{senderOf, total, entry, confirmeds, ordereds, waitings}
-use Rattle.lists.specs.Settle.{precedesAt, before, joinedAt, confirmedOne}
+use Rattle.lists.specs.Order.{senderOf, entry, confirmeds, ordereds, waitings}
+use Rattle.lists.specs.Settle.{before, joinedAt, confirmedOne}
 use Rattle.lists.specs.View.{Holds, Shows, Whole}
 use Rattle.lists.proofs.JoinLaws.{Waits, before-le, joined-confirmeds, joined-ordereds, joined-waitings, waitings-cut}
-use Rattle.lists.proofs.PlaceLaws.{All, all-listed, insert-at}
+use Rattle.lists.proofs.PlaceLaws.{all-listed, insert-at}
 
 withoutOldest-after : (j : ℕ) (l r : List Place) (p : Place) → from j l ≡ [] → p .src ≡ j → withoutOldest j (l ++ (p ∷ r)) ≡ l ++ r
 unfolding from

@@ -1,7 +1,7 @@
 -- The order of the taken places: three lists of place numbers, one after the other in one array.
 use mathlib.Core.Bool.{Bool, true, false, cond}
 use mathlib.Core.List.{List, [], _∷_, _++_, map}
-use Prim.Native.Nat.{ℕ, suc, _+_, _-_, _/_, _%_}
+use Prim.Native.Nat.{ℕ, _+_, _-_, _/_, _%_}
 use lib.Dec.{eqb, ltb}
 use lib.ListN.{getD, drop, set, replicate}
 use Rattle.rules.specs.Maps.{listed}

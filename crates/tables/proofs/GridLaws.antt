@@ -2,14 +2,14 @@
 use mathlib.Core.Bool.{Bool, true, false, cond, false≢true}
 use mathlib.Core.List.{List}
 use mathlib.Core.Path.{_≡_, refl, sym, ap, _∙_, fun-ext}
-use Prim.Native.Nat.{ℕ, zero, suc, _+_, _-_, _*_, _/_, _%_, _≤_, _<_, min}
+use Prim.Native.Nat.{ℕ, zero, suc, _+_, _-_, _*_, _/_, _%_, _≤_}
 use native.Mathlib.Omega.{arith}
 use lib.Dec.{eqb}
 use lib.ListN.{length, getD, drop, List·getD-eq-default}
 use lib.Seq.{getD-drop}
-use borrow.Author.Tests.{eq-eqb, ne-eqb}
+use borrow.Author.Tests.{ne-eqb}
 use Rattle.rules.specs.Maps.{between, units, at, column, least}
-use Rattle.rules.proofs.MapsLaws.{Lt?, lt, ge, lt?, Eq?, same, other, eq?, between-low, between-high, is-between, units-in, least-mono, length-listed, getD-listed}
+use Rattle.rules.proofs.MapsLaws.{Lt?, lt, ge, lt?, between-low, between-high, is-between, units-in, least-mono, length-listed, getD-listed}
 use Rattle.tables.specs.Rows.{part, rowOf, grid, withColumn}
 use Rattle.tables.proofs.RowLaws.{at-before}
 

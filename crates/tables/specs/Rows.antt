@@ -1,5 +1,5 @@
 -- Rows of numbers, and tables of eight rows of eight, as lists.
-use mathlib.Core.Bool.{Bool, true, false, cond}
+use mathlib.Core.Bool.{Bool, true, cond}
 use mathlib.Core.List.{List}
 use Prim.Native.Nat.{ℕ, _+_, _-_, _*_, _/_, _%_, max}
 use lib.Dec.{eqb, leb, ltb}

@@ -1,4 +1,3 @@
-use mathlib.Core.Path.{_≡_, ap, _∙_}
 use borrow.Author.Needs.{needs}
 use Rattle.lists.specs.Settle.{readyAt}
 use Rattle.lists.proofs.confirm.ready.Statement.{statement}

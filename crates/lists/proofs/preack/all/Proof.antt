@@ -1,10 +1,9 @@
 use mathlib.Core.List.{List}
-use mathlib.Core.Path.{_≡_, refl, sym, ap, _∙_}
+use mathlib.Core.Path.{_≡_, refl, ap, _∙_}
 use Prim.Native.Nat.{ℕ, _+_, _-_, _≤_}
 use native.Mathlib.Omega.{arith}
 use borrow.Author.Needs.{needs}
 use Rattle.rules.specs.Maps.{at, least}
-use Rattle.lists.specs.declared.Order.{Order}
 use Rattle.lists.specs.Order.{total}
 use Rattle.lists.specs.Settle.{ackedFrom, ackedTo}
 use Rattle.lists.proofs.PreackLaws.{total-ackedTo, ackedTo-more}

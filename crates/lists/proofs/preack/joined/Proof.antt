@@ -1,11 +1,7 @@
-use mathlib.Core.Path.{_≡_, ap, _∙_}
-use Prim.Native.Nat.{ℕ, _≤_}
 use native.Mathlib.Omega.{arith}
-use lib.ListN.{getD, length}
 use mir.Syntax.{w8}
 use mir.Val.{Fits}
 use borrow.Author.Needs.{needs}
-use Rattle.rules.specs.Maps.{listed}
 use Rattle.rules.proofs.MapsLaws.{length-listed}
 use Rattle.lists.specs.Order.{entry, ordereds}
 use Rattle.lists.specs.Settle.{precedesAt, before, joinedAt}

@@ -1,13 +1,13 @@
 use mathlib.Core.Logic.{_≢_, ⊎-elim}
-use mathlib.Core.Path.{_≡_, refl, sym, ap, subst, _∙_}
+use mathlib.Core.Path.{_≡_, sym, ap, subst, _∙_}
 use Prim.Native.Nat.{ℕ, _+_, _-_, _≤_, _<_}
 use native.Mathlib.Omega.{arith}
 use lib.ListN.{getD}
 use borrow.Author.Needs.{needs}
 use borrow.Author.Tests.{eq-eqb, ne-eqb, le-leb, lt-leb}
 use Rattle.lists.specs.declared.Order.{Order}
-use Rattle.lists.specs.Order.{senderOf, entry, total}
-use Rattle.lists.specs.Settle.{joinedAt, ackedAt, ackedFrom}
+use Rattle.lists.specs.Order.{senderOf, entry}
+use Rattle.lists.specs.Settle.{ackedAt, ackedFrom}
 use Rattle.lists.proofs.PreackLaws.{Turn, turn-joined, turn-passed, acked-join, acked-pass, acked-stop, acked-end}
 use Rattle.lists.proofs.preack.of.Statement.{statement}
 use Rattle.lists.proofs.preack.of.Tie as tie

@@ -4,6 +4,7 @@ use mathlib.Core.List.{List, [], _∷_, _++_, map}
 use mathlib.Core.Path.{_≡_, refl, ap, _∙_}
 use Prim.Native.Nat.{ℕ, zero, suc, _+_, _-_, _*_, _/_, _≤_, _<_}
 use native.Mathlib.Omega.{arith}
+use native.Mathlib.Nat.{add-zero}
 use lib.Dec.{eqb, ltb}
 use lib.ListN.{getD, take, drop}
 use borrow.Author.Tests.{eq-eqb}
@@ -33,7 +34,10 @@ All P (x ∷ l) = P x × All P l
 
 pub all-listed : (P : ℕ → Type 0) (a m : ℕ) (f : ℕ → ℕ) → ((i : ℕ) → i < m → P (f (a + i))) → All P (listed a m f)
 all-listed P a zero f h = tt
-all-listed P a (suc m) f h = (rw (let e : a + 0 ≡ a = omega arith in e) at (h 0 (omega arith)), all-listed P (suc a) m f (λ i x. rw (let e : a + suc i ≡ suc a + i = omega arith in e) at (h (suc i) (omega arith))))
+all-listed P a (suc m) f h = (
+  rw (add-zero a) at (h 0 (omega arith)),
+  all-listed P (suc a) m f (λ i x. rw (let e : a + suc i ≡ suc a + i = omega arith in e) at (h (suc i) (omega arith))),
+)
 
 module _ (M : ℕ → Place) (n : ℕ) (seqs acks : List ℕ) (H : Holds M n seqs acks) where
   pub precedes-at : (p q : ℕ) → senderOf p ≤ n → senderOf q ≤ n → precedes (M p) (M q) ≡ precedesAt seqs acks p q
@@ -75,7 +79,9 @@ module _ (M : ℕ → Place) (n : ℕ) (seqs acks : List ℕ) (H : Holds M n seq
 
   -- ---- insertion
 
-  pub insert-at : (p : ℕ) (l : List ℕ) → senderOf p ≤ n → Fine l → insert (M p) (map M l) ≡ map M (take (indexOf (precedesAt seqs acks p) l) l ++ (p ∷ drop (indexOf (precedesAt seqs acks p) l) l))
+  pub insert-at : (p : ℕ) (l : List ℕ) → senderOf p ≤ n → Fine l
+      → let k : ℕ = indexOf (precedesAt seqs acks p) l in
+      insert (M p) (map M l) ≡ map M (take k l ++ (p ∷ drop k l))
   insert-at p [] x h = refl
   insert-at p (q ∷ l) x h = rw (precedes-at p q x (h .0)) (go (precedesAt seqs acks p q) (insert-at p l x (h .1)))
     where

@@ -22,7 +22,7 @@ use Rattle.lists.specs.declared.Order.{Order}
 use Rattle.lists.specs.Order.{senderOf, only, total, entry, waitings, ordereds}
 use Rattle.lists.specs.Settle.{joinedAt, ackedAt, ackedFrom, ackedTo, readyAt, confirmedOne, confirmedAll, settledOf}
 use Rattle.lists.specs.View.{Holds, Shows, showing, Whole, Rearranged}
-use Rattle.lists.proofs.JoinLaws.{Waits, joined-front, joined-past, joined-total, joined-long, joined-same}
+use Rattle.lists.proofs.JoinLaws.{Waits, joined-front, joined-past, joined-total, joined-rearranged}
 use Rattle.lists.proofs.RearrangeLaws.{rearranged-whole, rearranged-trans}
 use Rattle.lists.proofs.ShowLaws.{joined-shows, confirmed-shows}
 
@@ -72,12 +72,15 @@ module _ (M : ℕ → Place) (n : ℕ) (most : n ≤ 8) (al seqs acks : List ℕ
           whole = omega (arith, A .whole);
           front = omega (arith, A .front);
           none =
-              ap (λ (l : List ℕ). from j (map M l)) (listed-snoc (o .confirmed + o .ordered) d (entry o) ∙ ap (λ (i : ℕ). listed (o .confirmed + o .ordered) d (entry o) ++ (entry o i ∷ [])) (A .front))
-              ∙ ap (from j) (map-append M (listed (o .confirmed + o .ordered) d (entry o)) (entry o q ∷ []))
-              ∙ from-append j (map M (listed (o .confirmed + o .ordered) d (entry o))) (M (entry o q) ∷ [])
+              ap (λ (l : List ℕ). from j (map M l)) (listed-snoc (o .confirmed + o .ordered) d (entry o) ∙ ap (λ (i : ℕ). older ++ (entry o i ∷ [])) (A .front))
+              ∙ ap (from j) (map-append M older (entry o q ∷ []))
+              ∙ from-append j (map M older) (M (entry o q) ∷ [])
               ∙ ap (λ (l : List Place). l ++ from j (M (entry o q) ∷ [])) (A .none)
               ∙ from-other j (M (entry o q)) [] x;
         }
+      where
+        older : List ℕ
+        older = listed (o .confirmed + o .ordered) d (entry o)
 
     waits-at : (m q d : ℕ) (o : Order) → Whole n o → At (suc m) q d o → Waits o q
     waits-at m q d o W A = record { long = W .long; room = W .room; behind = omega (arith, A .front); within = omega (arith, A .whole) }
@@ -96,7 +99,7 @@ module _ (M : ℕ → Place) (n : ℕ) (most : n ≤ 8) (al seqs acks : List ℕ
     unfolding preacked
     joined-tied m q d o s T A e =
         let w = waits-at m q d o (T .whole) A in
-        let R : Rearranged o (joinedAt o q seqs acks) = record { long = joined-long o q seqs acks w ∙ sym (w .long); size = joined-total o q seqs acks w; same = joined-same o q seqs acks w } in
+        let R = joined-rearranged o q seqs acks w in
         record {
           shows = joined-shows M n most seqs acks H o s q d m w (T .whole) (T .shows) (A .front) (omega (arith, A .whole, A .front)) (rw e (A .none));
           whole = rearranged-whole n o (joinedAt o q seqs acks) R (T .whole);
@@ -104,49 +107,64 @@ module _ (M : ℕ → Place) (n : ℕ) (most : n ≤ 8) (al seqs acks : List ℕ
           moved = rearranged-trans first o (joinedAt o q seqs acks) (T .moved) R;
         }
 
-    acked-tied : (m q d : ℕ) (o : Order) (s : State) → Tied o s → At m q d o → Tied (ackedAt m q o j bound seqs acks) (preackWhile (from j (map M (listed q m (entry o)))) s)
+    abbrev acked : ℕ → ℕ → Order → Order
+    acked m q o = ackedAt m q o j bound seqs acks
+
+    abbrev preacks : ℕ → ℕ → Order → State → State
+    preacks m q o = preackWhile (from j (map M (listed q m (entry o))))
+
+    acked-tied : (m q d : ℕ) (o : Order) (s : State) → Tied o s → At m q d o → Tied (acked m q o) (preacks m q o s)
     unfolding from
     acked-tied zero q d o s T A = T
     acked-tied (suc m) q d o s T A =
         turn (eq? (senderOf p) j)
-        (λ x. acked-tied m (suc q) (d + 1) o s T (passed-at m q d o A x))
-        (λ e. subst (λ (l : List ℕ). Tied (ackedAt m (suc q) (joinedAt o q seqs acks) j bound seqs acks) (preackWhile (from j (map M l)) (preacked s (M p)))) (joined-past o q seqs acks w m)
-        (acked-tied m (suc q) d (joinedAt o q seqs acks) (preacked s (M p)) (joined-tied m q d o s T A e) (joined-at m q d o (T .whole) A)))
+        (λ x. acked-tied m (suc q) (d + 1) o s T (passed-at m q d o A (λ e. x (sym src ∙ e))))
+        (λ e. subst (λ (l : List ℕ). Tied joined (preackWhile (from j (map M l)) t)) (joined-past o q seqs acks w m)
+        (acked-tied m (suc q) d (joinedAt o q seqs acks) t (joined-tied m q d o s T A e) (joined-at m q d o (T .whole) A)))
       where
         p : ℕ
         p = entry o q
 
+        x : ℕ
+        x = getD seqs p 0
+
+        t : State
+        t = preacked s (M p)
+
         w : Waits o q
         w = waits-at m q d o (T .whole) A
 
+        fits : senderOf p ≤ n
+        fits = T .whole .senders q (w .within)
+
         src : M p .src ≡ senderOf p
-        src = H .src p (T .whole .senders q (w .within))
+        src = H .src p fits
 
         rest : List Place
         rest = map M (listed (suc q) m (entry o))
 
         passed : Order
-        passed = ackedAt m (suc q) o j bound seqs acks
+        passed = acked m (suc q) o
 
         joined : Order
-        joined = ackedAt m (suc q) (joinedAt o q seqs acks) j bound seqs acks
+        joined = acked m (suc q) (joinedAt o q seqs acks)
 
-        due : senderOf p ≡ j → ltb (M p .seq) (minAL s (M p .src)) ≡ ltb (getD seqs p 0) bound
+        due : senderOf p ≡ j → ltb (M p .seq) (minAL s (M p .src)) ≡ ltb x bound
         due e =
-            ap (λ (i : ℕ). ltb i (minAL s (M p .src))) (H .seq p (T .whole .senders q (w .within)))
-            ∙ ap (λ (k : ℕ). ltb (getD seqs p 0) (minAL s k)) (src ∙ e)
-            ∙ ap (ltb (getD seqs p 0)) (minAL-bound o s T)
+            ap (λ (i : ℕ). ltb i (minAL s (M p .src))) (H .seq p fits)
+            ∙ ap (λ (k : ℕ). ltb x (minAL s k)) (src ∙ e)
+            ∙ ap (ltb x) (minAL-bound o s T)
 
-        step : {t : Bool} → Lt? (getD seqs p 0) bound t → Tied joined (preackWhile (from j rest) (preacked s (M p))) → Tied (cond (leb bound (getD seqs p 0)) o joined) (cond t (preackWhile (from j rest) (preacked s (M p))) s)
-        step (lt h) ih = rw (lt-leb bound (getD seqs p 0) h) ih
-        step (ge h) ih = rw (le-leb bound (getD seqs p 0) h) T
+        step : {b : Bool} → Lt? x bound b → Tied joined (preackWhile (from j rest) t) → Tied (cond (leb bound x) o joined) (cond b (preackWhile (from j rest) t) s)
+        step (lt h) ih = rw (lt-leb bound x h) ih
+        step (ge h) ih = rw (le-leb bound x h) T
 
-        turn : {t : Bool} → Eq? (senderOf p) j t → (M p .src ≢ j → Tied passed (preackWhile (from j rest) s)) → (senderOf p ≡ j → Tied joined (preackWhile (from j rest) (preacked s (M p)))) → Tied (cond t (cond (leb bound (getD seqs p 0)) o joined) passed) (preackWhile (from j (M p ∷ rest)) s)
+        turn : {b : Bool} → Eq? (senderOf p) j b → (senderOf p ≢ j → Tied passed (preackWhile (from j rest) s)) → (senderOf p ≡ j → Tied joined (preackWhile (from j rest) t))
+            → Tied (cond b (cond (leb bound x) o joined) passed) (preackWhile (from j (M p ∷ rest)) s)
         turn (same e) f g =
-            subst (λ (l : List Place). Tied (cond (leb bound (getD seqs p 0)) o joined) (preackWhile l s)) (sym (from-same j (M p) rest (src ∙ e)))
-            (subst (λ (b : Bool). Tied (cond (leb bound (getD seqs p 0)) o joined) (cond b (preackWhile (from j rest) (preacked s (M p))) s)) (sym (due e)) (step (lt? (getD seqs p 0) bound) (g e)))
-        turn (other x) f g =
-            subst (λ (l : List Place). Tied passed (preackWhile l s)) (sym (from-other j (M p) rest (λ e. x (sym src ∙ e)))) (f (λ e. x (sym src ∙ e)))
+            subst (λ (l : List Place). Tied (cond (leb bound x) o joined) (preackWhile l s)) (sym (from-same j (M p) rest (src ∙ e)))
+            (subst (λ (b : Bool). Tied (cond (leb bound x) o joined) (cond b (preackWhile (from j rest) t) s)) (sym (due e)) (step (lt? x bound) (g e)))
+        turn (other d) f g = subst (λ (l : List Place). Tied passed (preackWhile l s)) (sym (from-other j (M p) rest (λ e. d (sym src ∙ e)))) (f d)
 
     ackedFrom-tied : (o : Order) (s : State) → Tied o s → Tied (ackedFrom o j bound seqs acks) (preackOf j s)
     unfolding ackedFrom preackOf from
@@ -199,7 +217,8 @@ module _ (M : ℕ → Place) (n : ℕ) (most : n ≤ 8) (al seqs acks : List ℕ
       rest : List Place
       rest = map M (listed (suc (o .confirmed)) m (entry o))
 
-      turn : (t : Bool) → Tied (confirmedAll m (confirmedOne o) seqs n) (confirmWhile rest (moved s (M p))) → Tied (cond t (confirmedAll m (confirmedOne o) seqs n) o) (cond t (confirmWhile rest (moved s (M p))) s)
+      turn : (t : Bool) → Tied (confirmedAll m (confirmedOne o) seqs n) (confirmWhile rest (moved s (M p)))
+          → Tied (cond t (confirmedAll m (confirmedOne o) seqs n) o) (cond t (confirmWhile rest (moved s (M p))) s)
       turn true ih = ih
       turn false ih = T
 

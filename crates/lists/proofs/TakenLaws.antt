@@ -3,6 +3,7 @@ use mathlib.Core.List.{List, _∷_, _++_, map, map-append}
 use mathlib.Core.Path.{_≡_, refl, sym, ap, _∙_}
 use Prim.Native.Nat.{ℕ, zero, suc, _+_, _≤_, _<_}
 use native.Mathlib.Omega.{arith}
+use native.Mathlib.Nat.{zero-add, add-zero}
 use lib.ListN.{length, length-map}
 use Rattle.rules.specs.Maps.{listed}
 use Rattle.rules.specs.State.{Place, State, taken, from}
@@ -18,12 +19,12 @@ pub takens-parts : (o : Order) → takens o ≡ confirmeds o ++ ordereds o ++ wa
 takens-parts o =
     listed-append 0 (o .confirmed + o .ordered) (o .waiting) (entry o)
     ∙ ap (λ (l : List ℕ). l ++ listed (0 + (o .confirmed + o .ordered)) (o .waiting) (entry o)) (listed-append 0 (o .confirmed) (o .ordered) (entry o))
-    ∙ ap (λ (a : ℕ). confirmeds o ++ listed (0 + o .confirmed) (o .ordered) (entry o) ++ listed a (o .waiting) (entry o)) (let e : 0 + (o .confirmed + o .ordered) ≡ o .confirmed + o .ordered = omega arith in e)
-    ∙ ap (λ (a : ℕ). confirmeds o ++ listed a (o .ordered) (entry o) ++ waitings o) (let e : 0 + o .confirmed ≡ o .confirmed = omega arith in e)
+    ∙ ap (λ (a : ℕ). confirmeds o ++ listed (0 + o .confirmed) (o .ordered) (entry o) ++ listed a (o .waiting) (entry o)) (zero-add (o .confirmed + o .ordered))
+    ∙ ap (λ (a : ℕ). confirmeds o ++ listed a (o .ordered) (entry o) ++ waitings o) (zero-add (o .confirmed))
 
 pub takens-fit : (n : ℕ) (o : Order) → Whole n o → All (λ p. senderOf p ≤ n) (takens o)
 takens-fit n o W =
-    all-listed (λ p. senderOf p ≤ n) 0 (total o) (entry o) (λ i x. rw (let e : 0 + i ≡ i = omega arith in e) (W .senders i x))
+    all-listed (λ p. senderOf p ≤ n) 0 (total o) (entry o) (λ i x. rw (zero-add i) (W .senders i x))
 
 module _ (M : ℕ → Place) (n : ℕ) (o : Order) (s : State) (S : Shows M n o s) where
   pub taken-shows : taken s ≡ map M (takens o)
@@ -56,7 +57,7 @@ module _ (M : ℕ → Place) (n : ℕ) (o : Order) (s : State) (S : Shows M n o 
 map-agree : (M M′ : ℕ → Place) (a m : ℕ) (f : ℕ → ℕ) → ((i : ℕ) → i < m → M (f (a + i)) ≡ M′ (f (a + i))) → map M (listed a m f) ≡ map M′ (listed a m f)
 map-agree M M′ a zero f h = refl
 map-agree M M′ a (suc m) f h =
-    ap (λ (p : Place). p ∷ map M (listed (suc a) m f)) (rw (let e : a + 0 ≡ a = omega arith in e) at (h 0 (omega arith)))
+    ap (λ (p : Place). p ∷ map M (listed (suc a) m f)) (rw (add-zero a) at (h 0 (omega arith)))
     ∙ ap (λ (l : List Place). M′ (f a) ∷ l) (map-agree M M′ (suc a) m f (λ i x. rw (let e : a + suc i ≡ suc a + i = omega arith in e) at (h (suc i) (omega arith))))
 
 pub shows-agree : (M M′ : ℕ → Place) (n : ℕ) (o : Order) (s : State) → ((i : ℕ) → i < total o → M (entry o i) ≡ M′ (entry o i)) → Shows M n o s → Shows M′ n o s

@@ -115,7 +115,7 @@ pub fn without_first(o: Order) -> Order
     let list = o.list;
     let rest = shifted(list);
     Order {
-        pal: pal,
+        pal,
         list: rest,
         confirmed: o.confirmed - 1,
         ordered: o.ordered,

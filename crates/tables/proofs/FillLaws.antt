@@ -22,19 +22,22 @@ module _ (t : List ℕ) (f : ℕ → ℕ) where
       ∙ ap (λ (l : List ℕ). l ++ drop (suc q) t) (sym (listed-snoc 0 q f))
       ∙ ap (λ (i : ℕ). listed 0 (q + 1) f ++ drop i t) (sym (add-one q))
 
-  pub filled-set : (q x : ℕ) → q < length t → x ≡ f q → set (filled q) q x ≡ filled (q + 1)
-  filled-set q x h e =
-      ap (λ (l : List ℕ). set (listed 0 q f ++ l) q x) (drop-cons t q 0 h)
+  -- turns of a loop that has come to index q, and its end
+  pub filled-set : (q x : ℕ) → q < length t → x ≡ f q → {l : List ℕ} → l ≡ filled q → set l q x ≡ filled (q + 1)
+  filled-set q x h e i =
+      ap (λ (l : List ℕ). set l q x) i
+      ∙ ap (λ (l : List ℕ). set (listed 0 q f ++ l) q x) (drop-cons t q 0 h)
       ∙ set-at (listed 0 q f) (getD t q 0) (drop (suc q) t) x q (length-listed 0 q f)
       ∙ ap (λ (y : ℕ). listed 0 q f ++ (y ∷ drop (suc q) t)) e
       ∙ filled-more q
 
-  pub filled-skip : (q : ℕ) → q < length t → getD t q 0 ≡ f q → filled q ≡ filled (q + 1)
-  filled-skip q h e =
-      ap (λ (l : List ℕ). listed 0 q f ++ l) (drop-cons t q 0 h ∙ ap (λ (y : ℕ). y ∷ drop (suc q) t) e) ∙ filled-more q
+  pub filled-skip : (q : ℕ) → q < length t → getD t q 0 ≡ f q → {l : List ℕ} → l ≡ filled q → l ≡ filled (q + 1)
+  filled-skip q h e i =
+      i ∙ ap (λ (l : List ℕ). listed 0 q f ++ l) (drop-cons t q 0 h ∙ ap (λ (y : ℕ). y ∷ drop (suc q) t) e) ∙ filled-more q
 
-  pub filled-end : (n q : ℕ) → length t ≡ n → q ≡ n → filled q ≡ listed 0 n f
-  filled-end n q h e =
-      ap (λ (i : ℕ). listed 0 i f ++ drop i t) e
+  pub filled-end : (n q : ℕ) → length t ≡ n → q ≡ n → {l : List ℕ} → l ≡ filled q → l ≡ listed 0 n f
+  filled-end n q h e i =
+      i
+      ∙ ap (λ (k : ℕ). listed 0 k f ++ drop k t) e
       ∙ ap (λ (l : List ℕ). listed 0 n f ++ l) (drop-of-length-le t (let all : length t ≤ n = omega arith in all))
       ∙ append-nil (listed 0 n f)

@@ -4,6 +4,7 @@ use mathlib.Core.List.{List}
 use mathlib.Core.Path.{_≡_, refl, sym, ap, _∙_, fun-ext}
 use Prim.Native.Nat.{ℕ, zero, suc, _+_, _-_, _*_, _/_, _%_, _≤_}
 use native.Mathlib.Omega.{arith}
+use native.Mathlib.Nat.{zero-add}
 use lib.Dec.{eqb}
 use lib.ListN.{length, getD, drop, List·getD-eq-default}
 use lib.Seq.{getD-drop}
@@ -63,12 +64,13 @@ module _ (n : ℕ) (most : n ≤ 8) (t v : List ℕ) (a j : ℕ) (low : 1 ≤ j)
   abbrev new : List ℕ
   new = withColumn t j (drop a v)
 
+  -- a cell of the new table
   cell : (k c : ℕ) → 1 ≤ k → k ≤ n → 1 ≤ c → c ≤ n → at (rowOf new k) c ≡ cond (eqb c j) (at (part v a n) k) (at (rowOf t k) c)
   unfolding withColumn
   cell k c k-low k-high c-low c-high =
       at-from new (8 * (k - 1)) c c-low
       ∙ getD-listed 0 64 written q (omega arith)
-      ∙ ap written (let e : 0 + q ≡ q = omega arith in e)
+      ∙ ap written (zero-add q)
       ∙ ap (λ (i : ℕ). cond (eqb i j) (getD (drop a v) (q / 8) 0) (getD t q 0)) (let e : q % 8 + 1 ≡ c = omega arith in e)
       ∙ ap (λ (i : ℕ). cond (eqb c j) (getD (drop a v) i 0) (getD t q 0)) (let e : q / 8 ≡ k - 1 = omega arith in e)
       ∙ ap (λ (x : ℕ). cond (eqb c j) x (getD t q 0)) (getD-drop a v (k - 1) 0 ∙ sym (at-part v a n k k-low k-high))
@@ -80,6 +82,7 @@ module _ (n : ℕ) (most : n ≤ 8) (t v : List ℕ) (a j : ℕ) (low : 1 ≤ j)
       written : ℕ → ℕ
       written i = cond (eqb (i % 8 + 1) j) (getD (drop a v) (i / 8) 0) (getD t i 0)
 
+  -- a row of it, as a map
   row-column : (k c : ℕ) → 1 ≤ k → k ≤ n → cond (eqb c j) (at (part v a n) k) (units n (at (rowOf t k)) c) ≡ units n (at (rowOf new k)) c
   unfolding units
   row-column k c k-low k-high = go (unit? n c)

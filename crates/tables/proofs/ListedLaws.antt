@@ -3,6 +3,7 @@ use mathlib.Core.Path.{_≡_, refl, sym, ap, _∙_}
 use mathlib.Core.List.{List, [], _∷_, _++_}
 use Prim.Native.Nat.{ℕ, zero, suc, _+_, _-_, _≤_, _<_}
 use native.Mathlib.Omega.{arith}
+use native.Mathlib.Nat.{zero-add, add-zero}
 use lib.ListN.{take, drop}
 use lib.Seq.{take-at, drop-at}
 use Rattle.rules.specs.Maps.{listed}
@@ -10,8 +11,8 @@ use Rattle.rules.proofs.MapsLaws.{length-listed}
 
 pub listed-append : (a m k : ℕ) (f : ℕ → ℕ) → listed a (m + k) f ≡ listed a m f ++ listed (a + m) k f
 listed-append a zero k f =
-    ap (λ (i : ℕ). listed a i f) (let e : 0 + k ≡ k = omega arith in e)
-    ∙ ap (λ (i : ℕ). listed i k f) (let e : a ≡ a + 0 = omega arith in e)
+    ap (λ (i : ℕ). listed a i f) (zero-add k)
+    ∙ ap (λ (i : ℕ). listed i k f) (sym (add-zero a))
 listed-append a (suc m) k f =
     ap (λ (i : ℕ). listed a i f) (let e : suc m + k ≡ suc (m + k) = omega arith in e)
     ∙ ap (λ (l : List ℕ). f a ∷ l)
@@ -29,10 +30,10 @@ listed-same a b (suc m) f g h =
     ∙ ap (λ (l : List ℕ). g b ∷ l) (listed-same (suc a) (suc b) m f g (λ i x. rest i x))
   where
     first : f a ≡ f (a + 0)
-    first = ap f (let e : a ≡ a + 0 = omega arith in e)
+    first = ap f (sym (add-zero a))
 
     last : g b ≡ g (b + 0)
-    last = ap g (let e : b ≡ b + 0 = omega arith in e)
+    last = ap g (sym (add-zero b))
 
     rest : (i : ℕ) → i < m → f (suc a + i) ≡ g (suc b + i)
     rest i x =

@@ -1,3 +1,4 @@
+-- After q turns m is counted, and the places from index q on are still to be.
 use borrow.Author.Needs.{needs}
 use mathlib.Core.Logic.{_≢_, ⊎-elim}
 use mathlib.Core.Path.{_≡_, ap}

@@ -1,3 +1,4 @@
+-- The k-th entry is entry k - 1, counted from 0.
 use mathlib.Core.Path.{_∙_}
 use borrow.Author.Needs.{needs}
 use Rattle.tables.proofs.RowLaws.{at-before}

@@ -1,3 +1,4 @@
+-- After k turns, whether the others are at most their limits decides.
 use mathlib.Core.Path.{_≡_, ap}
 use mathlib.Core.Bool.{Bool, true, cond}
 use mathlib.Core.List.{List}

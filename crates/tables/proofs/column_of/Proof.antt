@@ -1,8 +1,9 @@
+-- After k turns the first k entries are cells of the column.
 use mathlib.Core.List.{List}
 use mathlib.Core.Path.{_≡_, ap, _∙_}
 use Prim.Native.Nat.{ℕ, _*_, _-_, _≤_}
 use native.Mathlib.Omega.{arith}
-use lib.ListN.{length, drop, set}
+use lib.ListN.{length, drop}
 use borrow.Author.Needs.{needs}
 use Rattle.rules.specs.Maps.{at}
 use Rattle.tables.specs.Rows.{columnOf}
@@ -49,8 +50,7 @@ loop-again c =
     let s = q .before .before .args in
     let k = q .loop .k in (
       search needs,
-      ap (λ (l : List ℕ). set l k (c .at .result)) (q .loop .inv .1) ∙ filled-set _ (cell (s .t .now) (s .j)) k (c .at .result) (omega arith)
-          (c .at .ensures ∙ ap (λ (l : List ℕ). at l (s .j)) (c .before .tail .ensures)),
+      filled-set _ (cell (s .t .now) (s .j)) k _ (omega arith) (c .at .ensures ∙ ap (λ (l : List ℕ). at l (s .j)) (c .before .tail .ensures)) (q .loop .inv .1),
     )
 
 returns : tie.Need-returns Inv-loop μ-loop
@@ -58,7 +58,7 @@ unfolding columnOf
 returns c =
     let q = c .before in
     let s = q .before .before .args in
-    q .loop .inv .1 ∙ filled-end _ (cell (s .t .now) (s .j)) 8 (q .loop .k) (omega arith) (omega arith)
+    filled-end _ (cell (s .t .now) (s .j)) 8 (q .loop .k) (omega arith) (omega arith) (q .loop .inv .1)
 
 pub column-of-spec : {M : Type 1} → statement M
 column-of-spec =

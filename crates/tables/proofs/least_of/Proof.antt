@@ -1,10 +1,9 @@
-use Prim.Native.Nat.{max}
-use mathlib.Core.Path.{_∙_}
-use Rattle.tables.proofs.RowLaws.{least-one, least-more, least-end}
-use mathlib.Core.Path.{_≡_}
-use Prim.Native.Nat.{_≤_, _-_}
-use Rattle.rules.specs.Maps.{at, least}
+-- After k turns m is the least of the first k numbers.
+use mathlib.Core.Path.{_≡_, _∙_}
+use Prim.Native.Nat.{_-_, _≤_, max}
 use borrow.Author.Needs.{needs}
+use Rattle.rules.specs.Maps.{at, least}
+use Rattle.tables.proofs.RowLaws.{least-one, least-more, least-end}
 use Rattle.tables.proofs.least_of.Statement.{statement}
 use Rattle.tables.proofs.least_of.Tie as tie
 
@@ -36,10 +35,16 @@ loop-less : tie.Need-loop-less Inv-loop μ-loop
 loop-less c = search needs
 
 loop-again : tie.Need-loop-again Inv-loop μ-loop
-loop-again c = let q = c .before .before .before in (least-more (q .before .before .before .args .a .now) (q .loop .k) _ _ _ (q .loop .inv .0) (c .before .get2 .ensures) (c .lesser .ensures), search needs)
+loop-again c =
+    let q = c .before .before .before in
+    let a = q .before .before .before .args .a .now in
+    (least-more a (q .loop .k) _ _ _ (q .loop .inv .0) (c .before .get2 .ensures) (c .lesser .ensures), search needs)
 
 returns : tie.Need-returns Inv-loop μ-loop
-returns c = let q = c .before in let s = q .before .before .before .args in q .loop .inv .0 ∙ least-end (s .a .now) (q .loop .k) (s .n) (c .loop-test .left) (q .loop .inv .1 .1)
+returns c =
+    let q = c .before in
+    let s = q .before .before .before .args in
+    q .loop .inv .0 ∙ least-end (s .a .now) (q .loop .k) (s .n) (c .loop-test .left) (q .loop .inv .1 .1)
 
 pub least-of-spec : {M : Type 1} → statement M
 least-of-spec =

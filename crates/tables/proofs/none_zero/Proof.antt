@@ -1,3 +1,4 @@
+-- After k turns, whether one of the others is 0 decides.
 use mathlib.Core.Bool.{Bool}
 use mathlib.Core.List.{List}
 use mathlib.Core.Path.{_≡_, ap}

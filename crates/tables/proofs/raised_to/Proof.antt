@@ -1,11 +1,12 @@
+-- After k turns the first k numbers are done, and the others as they were.
 use mathlib.Core.Bool.{cond}
 use mathlib.Core.List.{List}
 use mathlib.Core.Logic.{⊎-elim}
-use mathlib.Core.Path.{_≡_, ap, _∙_}
+use mathlib.Core.Path.{_≡_, _∙_}
 use Prim.Native.Nat.{ℕ, _-_, _≤_, max}
 use native.Mathlib.Omega.{arith}
 use lib.Dec.{ltb}
-use lib.ListN.{length, getD, set}
+use lib.ListN.{length, getD}
 use borrow.Author.Needs.{needs}
 use borrow.Author.Tests.{lt-ltb, le-ltb}
 use Rattle.tables.specs.Rows.{raised}
@@ -59,8 +60,10 @@ loop-again c =
     let k = q .loop .k in
     let f = cell (s .n) (s .t1) (s .t2) in (
       search needs,
-      ⊎-elim (λ w. w .2 ∙ ap (λ (l : List ℕ). set l k (w .1 .result)) (q .loop .inv .1) ∙ filled-set (s .t1) f k (w .1 .result) (omega arith) (rw (lt-ltb k (s .n) (w .0 .taken)) (w .1 .ensures)))
-          (λ w. w .1 ∙ q .loop .inv .1 ∙ filled-skip (s .t1) f k (omega arith) (rw (le-ltb k (s .n) (w .0 .left)))) (c .if1 .came),
+      ⊎-elim
+          (λ w. w .2 ∙ filled-set (s .t1) f k _ (omega arith) (rw (lt-ltb k (s .n) (w .0 .taken)) (w .1 .ensures)) (q .loop .inv .1))
+          (λ w. w .1 ∙ filled-skip (s .t1) f k (omega arith) (rw (le-ltb k (s .n) (w .0 .left))) (q .loop .inv .1))
+          (c .if1 .came),
     )
 
 returns : tie.Need-returns Inv-loop μ-loop
@@ -68,7 +71,7 @@ unfolding raised
 returns c =
     let q = c .before in
     let s = q .before .args in
-    q .loop .inv .1 ∙ filled-end (s .t1) (cell (s .n) (s .t1) (s .t2)) 8 (q .loop .k) (omega arith) (omega arith)
+    filled-end (s .t1) (cell (s .n) (s .t1) (s .t2)) 8 (q .loop .k) (omega arith) (omega arith) (q .loop .inv .1)
 
 pub raised-to-spec : {M : Type 1} → statement M
 raised-to-spec =

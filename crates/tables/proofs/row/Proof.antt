@@ -1,3 +1,4 @@
+-- A row starts at eight times the number before its own.
 use mathlib.Core.Path.{ap, _∙_}
 use Prim.Native.Nat.{ℕ, _*_}
 use lib.ListN.{drop}

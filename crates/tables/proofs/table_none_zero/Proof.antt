@@ -1,3 +1,4 @@
+-- After k turns, whether one of the other rows has a 0 decides.
 use mathlib.Core.Path.{_≡_, sym, ap, _∙_}
 use mathlib.Core.Bool.{Bool}
 use mathlib.Core.List.{List}

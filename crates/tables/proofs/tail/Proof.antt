@@ -1,3 +1,4 @@
+-- Past the end both sides are empty.
 use mathlib.Core.Path.{sym}
 use native.Mathlib.Omega.{arith}
 use Prim.Native.Nat.{_-_}

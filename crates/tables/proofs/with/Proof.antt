@@ -1,3 +1,4 @@
+-- Past the eighth nothing is stored, and `set` changes nothing.
 use mathlib.Core.Path.{ap, sym}
 use native.Mathlib.Omega.{arith}
 use Prim.Native.Nat.{_-_}

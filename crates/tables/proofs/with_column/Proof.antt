@@ -1,11 +1,12 @@
+-- After q turns the first q cells are done, and the others as they were.
 use mathlib.Core.Bool.{cond}
 use mathlib.Core.List.{List}
 use mathlib.Core.Logic.{⊎-elim}
-use mathlib.Core.Path.{_≡_, ap, _∙_}
+use mathlib.Core.Path.{_≡_, _∙_}
 use Prim.Native.Nat.{ℕ, _+_, _-_, _/_, _%_, _≤_}
 use native.Mathlib.Omega.{arith}
 use lib.Dec.{eqb}
-use lib.ListN.{length, getD, set}
+use lib.ListN.{length, getD}
 use borrow.Author.Needs.{needs}
 use borrow.Author.Tests.{eq-eqb, ne-eqb}
 use Rattle.tables.specs.Rows.{withColumn}
@@ -50,8 +51,10 @@ loop-again c =
     let i = q .loop .q in
     let f = cell (s .t) (s .j) (s .v .now) in (
       search needs,
-      ⊎-elim (λ w. w .2 ∙ ap (λ (l : List ℕ). set l i (w .1 .result)) (q .loop .inv .1) ∙ filled-set (s .t) f i (w .1 .result) (omega arith) (rw (eq-eqb (i % 8 + 1) (s .j) (w .0 .taken)) (w .1 .ensures)))
-          (λ w. w .1 ∙ q .loop .inv .1 ∙ filled-skip (s .t) f i (omega arith) (rw (ne-eqb (i % 8 + 1) (s .j) (w .0 .left)))) (c .if1 .came),
+      ⊎-elim
+          (λ w. w .2 ∙ filled-set (s .t) f i _ (omega arith) (rw (eq-eqb (i % 8 + 1) (s .j) (w .0 .taken)) (w .1 .ensures)) (q .loop .inv .1))
+          (λ w. w .1 ∙ filled-skip (s .t) f i (omega arith) (rw (ne-eqb (i % 8 + 1) (s .j) (w .0 .left))) (q .loop .inv .1))
+          (c .if1 .came),
     )
 
 returns : tie.Need-returns Inv-loop μ-loop
@@ -59,7 +62,7 @@ unfolding withColumn
 returns c =
     let q = c .before in
     let s = q .before .before .args in
-    q .loop .inv .1 ∙ filled-end (s .t) (cell (s .t) (s .j) (s .v .now)) 64 (q .loop .q) (omega arith) (omega arith)
+    filled-end (s .t) (cell (s .t) (s .j) (s .v .now)) 64 (q .loop .q) (omega arith) (omega arith) (q .loop .inv .1)
 
 pub with-column-spec : {M : Type 1} → statement M
 with-column-spec =

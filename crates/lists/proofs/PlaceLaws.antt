@@ -11,7 +11,7 @@ use borrow.Author.Tests.{eq-eqb}
 use Rattle.rules.specs.Maps.{all, among, at, listed}
 use Rattle.rules.specs.State.{Place, from}
 use Rattle.rules.specs.Steps.{precedes, insert}
-use Rattle.rules.specs.Sound.{samePlace}
+use Rattle.rules.specs.Sound.{samePlace, once}
 use Rattle.rules.proofs.MapsLaws.{Eq?, same, other, eq?}
 use Rattle.tables.proofs.GridLaws.{at-part}
 use Rattle.lists.specs.Order.{senderOf, slotOf, isOf, only, slotsIn}
@@ -38,6 +38,10 @@ all-listed P a (suc m) f h = (
   rw (add-zero a) at (h 0 (omega arith)),
   all-listed P (suc a) m f (λ i x. rw (let e : a + suc i ≡ suc a + i = omega arith in e) at (h (suc i) (omega arith))),
 )
+
+pub all-map : (t : Place → Bool) (M : ℕ → Place) (l : List ℕ) → all t (map M l) ≡ all (λ p. t (M p)) l
+all-map t M [] = refl
+all-map t M (p ∷ l) = ap (λ (b : Bool). t (M p) && b) (all-map t M l)
 
 module _ (M : ℕ → Place) (n : ℕ) (seqs acks : List ℕ) (H : Holds M n seqs acks) where
   pub precedes-at : (p q : ℕ) → senderOf p ≤ n → senderOf q ≤ n → precedes (M p) (M q) ≡ precedesAt seqs acks p q
@@ -116,3 +120,6 @@ module _ (M : ℕ → Place) (n : ℕ) (seqs acks : List ℕ) (H : Holds M n seq
       go : (t : Bool) → all (λ r. not (samePlace (M p) r)) (map M l) ≡ not (among p l) → not t && all (λ r. not (samePlace (M p) r)) (map M l) ≡ not (t || among p l)
       go true e = refl
       go false e = e
+
+  pub once-cons : (p : ℕ) (l : List ℕ) → senderOf p ≤ n → Fine l → once (map M (p ∷ l)) ≡ not (among p l) && once (map M l)
+  once-cons p l x h = ap (λ (b : Bool). b && once (map M l)) (all-apart p l x h)

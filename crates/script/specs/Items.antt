@@ -1,0 +1,77 @@
+-- A line of a script, read: its items, and the command that they are.
+use mathlib.Core.Bool.{Bool, true, false, cond, not, _&&_, _||_}
+use mathlib.Core.List.{List, [], _∷_}
+use Prim.Native.Nat.{ℕ, _+_, _-_, _*_}
+use Prim.Native.Char.{code}
+use lib.Dec.{eqb, leb, ltb}
+use lib.ListN.{length, getD}
+use Rattle.rules.specs.Maps.{between, all}
+use Rattle.script.specs.Lines.{parted}
+
+abbrev pub space : ℕ
+space = 32
+
+-- Items are parted by one space: where a space leads, trails or is doubled, an item is empty.
+abbrev pub items : List ℕ → List (List ℕ)
+items l = parted space ([] ∷ []) l
+
+-- ---- numbers: plain decimal, no leading zeros, of any length
+
+abbrev pub isDigit : ℕ → Bool
+isDigit b = between 48 57 b
+
+unfoldable pub isNumber : List ℕ → Bool
+isNumber l = ltb 0 (length l) && (eqb (length l) 1 || not (eqb (getD l 0 0) 48)) && all isDigit l
+
+-- v, with further digits
+abbrev pub valueFrom : ℕ → List ℕ → ℕ
+valueFrom v [] = v
+valueFrom v (b ∷ l) = valueFrom (v * 10 + (b - 48)) l
+
+abbrev pub value : List ℕ → ℕ
+value l = valueFrom 0 l
+
+-- ---- words: one or more printable bytes, none of them a space
+
+unfoldable pub isWord : List ℕ → Bool
+isWord l = ltb 0 (length l) && all (between 33 126) l
+
+-- ---- commands
+
+pub data Command : Type 0 where
+  groups : (n w : ℕ) → Command
+  sends : (u : ℕ) (word : List ℕ) → Command
+  arrives : (u f : ℕ) → Command
+  requests : (u k : ℕ) → Command
+  takes : (u : ℕ) → Command
+  unreadable : Command
+
+-- an item of one byte is that letter, any other is 0
+abbrev pub letter : List ℕ → ℕ
+letter [] = 0
+letter (b ∷ []) = b
+letter (b ∷ c ∷ l) = 0
+
+-- `T u`
+unfoldable pub ofTwo : ℕ → List ℕ → Command
+ofTwo c y = cond (eqb c (code "T") && isNumber y) (takes (value y)) unreadable
+
+-- `G n W`, `S u word`, `A u f`, `R u k`
+unfoldable pub ofThree : ℕ → List ℕ → List ℕ → Command
+ofThree c y z =
+    cond (eqb c (code "G") && isNumber y && isNumber z) (groups (value y) (value z))
+    (cond (eqb c (code "S") && isNumber y && isWord z) (sends (value y) z)
+    (cond (eqb c (code "A") && isNumber y && isNumber z) (arrives (value y) (value z))
+    (cond (eqb c (code "R") && isNumber y && isNumber z) (requests (value y) (value z))
+    unreadable)))
+
+abbrev pub ofItems : List (List ℕ) → Command
+ofItems [] = unreadable
+ofItems (x ∷ []) = unreadable
+ofItems (x ∷ y ∷ []) = ofTwo (letter x) y
+ofItems (x ∷ y ∷ z ∷ []) = ofThree (letter x) y z
+ofItems (x ∷ y ∷ z ∷ t ∷ l) = unreadable
+
+-- Lines are at most 80 bytes; any other line is unreadable.
+unfoldable pub command : List ℕ → Command
+command l = cond (leb (length l) 80) (ofItems (items l)) unreadable

@@ -1,0 +1,22 @@
+-- Bytes in lines.
+use mathlib.Core.Bool.{Bool, true, false, cond}
+use mathlib.Core.List.{List, [], _∷_}
+use Prim.Native.Nat.{ℕ}
+use lib.Dec.{eqb}
+
+-- b, before the first of these
+abbrev pub onto : ℕ → List (List ℕ) → List (List ℕ)
+onto b [] = (b ∷ []) ∷ []
+onto b (x ∷ l) = (b ∷ x) ∷ l
+
+-- the parts of a text that each byte c ends; `rest` is what there is where nothing is left
+abbrev pub parted : ℕ → List (List ℕ) → List ℕ → List (List ℕ)
+parted c rest [] = rest
+parted c rest (b ∷ l) = cond (eqb b c) ([] ∷ parted c rest l) (onto b (parted c rest l))
+
+abbrev pub lineFeed : ℕ
+lineFeed = 10
+
+-- A line feed ends a line. After a final one nothing follows; a last line without one counts.
+abbrev pub lines : List ℕ → List (List ℕ)
+lines l = parted lineFeed [] l

@@ -1,2 +1,4 @@
 -- What is proved of the definitions.
+pub mod LinesLaws
+pub mod ReaderLaws
 pub mod Cases

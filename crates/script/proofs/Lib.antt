@@ -1,4 +1,5 @@
 -- What is proved of the definitions.
 pub mod LinesLaws
+pub mod ItemsLaws
 pub mod ReaderLaws
 pub mod Cases

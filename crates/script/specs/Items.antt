@@ -33,8 +33,11 @@ value l = valueFrom 0 l
 
 -- ---- words: one or more printable bytes, none of them a space
 
+abbrev pub isPrintable : ℕ → Bool
+isPrintable b = between 33 126 b
+
 unfoldable pub isWord : List ℕ → Bool
-isWord l = ltb 0 (length l) && all (between 33 126) l
+isWord l = ltb 0 (length l) && all isPrintable l
 
 -- ---- commands
 
@@ -53,23 +56,23 @@ letter (b ∷ []) = b
 letter (b ∷ c ∷ l) = 0
 
 -- `T u`
-unfoldable pub ofTwo : ℕ → List ℕ → Command
-ofTwo c y = cond (eqb c (code "T") && isNumber y) (takes (value y)) unreadable
+unfoldable pub ofTwo : ℕ → ℕ → Command
+ofTwo c u = cond (eqb c (code "T")) (takes u) unreadable
 
 -- `G n W`, `S u word`, `A u f`, `R u k`
-unfoldable pub ofThree : ℕ → List ℕ → List ℕ → Command
-ofThree c y z =
-    cond (eqb c (code "G") && isNumber y && isNumber z) (groups (value y) (value z))
-    (cond (eqb c (code "S") && isNumber y && isWord z) (sends (value y) z)
-    (cond (eqb c (code "A") && isNumber y && isNumber z) (arrives (value y) (value z))
-    (cond (eqb c (code "R") && isNumber y && isNumber z) (requests (value y) (value z))
-    unreadable)))
+unfoldable pub ofThree : ℕ → ℕ → List ℕ → Command
+ofThree c u z =
+    cond (eqb c (code "S") && isWord z) (sends u z)
+    (cond (eqb c (code "G") && isNumber z) (groups u (value z))
+    (cond (eqb c (code "A") && isNumber z) (arrives u (value z))
+    (cond (eqb c (code "R") && isNumber z) (requests u (value z)) unreadable)))
 
+-- a letter, a number, and in a line of three items a number or a word
 abbrev pub ofItems : List (List ℕ) → Command
 ofItems [] = unreadable
 ofItems (x ∷ []) = unreadable
-ofItems (x ∷ y ∷ []) = ofTwo (letter x) y
-ofItems (x ∷ y ∷ z ∷ []) = ofThree (letter x) y z
+ofItems (x ∷ y ∷ []) = cond (isNumber y) (ofTwo (letter x) (value y)) unreadable
+ofItems (x ∷ y ∷ z ∷ []) = cond (isNumber y) (ofThree (letter x) (value y) z) unreadable
 ofItems (x ∷ y ∷ z ∷ t ∷ l) = unreadable
 
 -- Lines are at most 80 bytes; any other line is unreadable.

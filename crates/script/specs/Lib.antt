@@ -5,3 +5,6 @@ pub mod Desk
 pub mod Print
 pub mod Script
 pub mod Reader
+pub mod Shown
+pub mod Gathered
+pub mod Written

@@ -20,3 +20,8 @@ lineFeed = 10
 -- A line feed ends a line. After a final one nothing follows; a last line without one counts.
 abbrev pub lines : List ℕ → List (List ℕ)
 lines l = parted lineFeed [] l
+
+-- the bytes before the first c
+abbrev pub before : ℕ → List ℕ → List ℕ
+before c [] = []
+before c (b ∷ l) = cond (eqb b c) [] (b ∷ before c l)

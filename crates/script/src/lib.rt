@@ -1,1 +1,6 @@
-// The bench's language.
+// The bench's language: reading the lines of a script, and writing what they print.
+pub mod bytes;
+pub mod collector;
+pub mod item;
+pub mod line;
+pub mod print;

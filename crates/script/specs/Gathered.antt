@@ -1,0 +1,36 @@
+-- How the code holds the line that is not ended yet.
+use mathlib.Core.Bool.{Bool, true, false, cond}
+use mathlib.Core.List.{List, [], _∷_}
+use mathlib.Core.Path.{_≡_}
+use Prim.Native.Nat.{ℕ, _+_}
+use lib.Dec.{ltb}
+use lib.ListN.{take, set, replicate}
+use Rattle.script.specs.Reader.{Begun, longer, longerBy}
+use Rattle.script.specs.declared.collector.Collector.{Collector}
+
+unfoldable pub emptied : Collector
+emptied = record { bytes = replicate 80 0; len = 0; long = false }
+
+-- the line that it holds
+abbrev pub begunOf : Collector → Begun
+begunOf c = record { bytes = take (c .len) (c .bytes); long = c .long }
+
+unfoldable pub pushed : Collector → ℕ → Collector
+pushed c b =
+    cond (ltb (c .len) 80)
+    (record { bytes = set (c .bytes) (c .len) b; len = c .len + 1; long = c .long })
+    (record { bytes = c .bytes; len = c .len; long = true })
+
+abbrev pub extended : Collector → List ℕ → Collector
+extended c [] = c
+extended c (b ∷ l) = extended (pushed c b) l
+
+-- r is c with a further byte
+pub record Pushed (c : Collector) (b : ℕ) (r : Collector) : Type 0 where
+  pub exact : r ≡ pushed c b
+  pub means : begunOf r ≡ longer (begunOf c) b
+
+-- r is c with these bytes
+pub record Extended (c : Collector) (l : List ℕ) (r : Collector) : Type 0 where
+  pub exact : r ≡ extended c l
+  pub means : begunOf r ≡ longerBy (begunOf c) l

@@ -1,0 +1,76 @@
+// The line that is being read, from the parts in which the input comes.
+use crate::line;
+use crate::line::Line;
+ghost use mathlib.Core.Path.{_≡_};
+ghost use Prim.Native.Nat.{min};
+ghost use lib.ListN.{length};
+ghost use Rattle.script.specs.Reader.{commandIn};
+ghost use Rattle.script.specs.Shown.{shown};
+ghost use Rattle.script.specs.Gathered.{emptied, Pushed, Extended, begunOf};
+
+// The first 80 bytes of the line, and whether there were more.
+pub struct Collector {
+    pub bytes: [u8; 80],
+    pub len: usize,
+    pub long: bool,
+}
+
+impl Collector {
+    pub fn new() -> Self
+        ensures { λ r. ⌜ r ≡ emptied ⌝ }
+    {
+        Self {
+            bytes: [0; 80],
+            len: 0,
+            long: false,
+        }
+    }
+
+    pub fn push(mut self, b: u8) -> Self
+        ensures { λ r. ⌜ Pushed self b r ⌝ }
+    {
+        let n = self.len;
+        if n < 80 {
+            self.bytes[n] = b;
+            self.len = n + 1;
+            return self;
+        }
+        self.long = true;
+        self
+    }
+
+    // All of a part, which has no line feed in it.
+    pub fn extend(self, part: &[u8]) -> Self
+        ensures { λ r. ⌜ Extended self (now (part .entry)) r ⌝ }
+    {
+        let mut c = self;
+        let mut i = 0;
+        while i < part.len() {
+            c = c.push(part[i]);
+            i += 1;
+        }
+        c
+    }
+
+    // How many of the bytes are the line's.
+    pub fn size(self) -> usize
+        ensures { λ r. ⌜ r ≡ length (begunOf self .bytes) ⌝ }
+    {
+        let n = self.len;
+        if n < 80 {
+            return n;
+        }
+        80
+    }
+
+    pub fn read(self) -> Line
+        ensures { λ r. ⌜ r ≡ shown (commandIn (begunOf self)) ⌝ }
+    {
+        if self.long {
+            return Line::Unreadable;
+        }
+        let bytes = self.bytes;
+        let n = self.size();
+        line::read(&bytes[..n])
+    }
+}

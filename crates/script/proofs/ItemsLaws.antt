@@ -1,5 +1,5 @@
 -- Laws of numbers and words: how they are read byte by byte, and the numbers that 32 bits hold.
-use mathlib.Core.Bool.{Bool, true, false, cond, not, _&&_, _||_, and-true, and-false, false≢true}
+use mathlib.Core.Bool.{Bool, true, false, cond, not, _&&_, _||_, and-true, and-false, or-true}
 use mathlib.Core.List.{List, [], _∷_}
 use mathlib.Core.Path.{_≡_, refl, sym, ap, _∙_}
 use Prim.Native.Nat.{ℕ, suc, _+_, _-_, _*_, _<_, _≤_, min}
@@ -8,7 +8,7 @@ use native.Mathlib.Omega.{arith}
 use lib.Dec.{eqb, leb, ltb}
 use lib.ListN.{length, getD, drop, drop-of-length-le}
 use lib.Seq.{drop-cons}
-use borrow.Author.Tests.{lt-leb, le-leb}
+use borrow.Author.Tests.{lt-leb, lt-ltb, ne-eqb}
 use Rattle.rules.specs.Maps.{between, all}
 use Rattle.rules.specs.Message.{last}
 use Rattle.rules.proofs.MapsLaws.{Lt?, lt, ge, lt?, between-high, is-between}
@@ -109,6 +109,26 @@ module _ (s : List ℕ) where
   counted-end v i h w =
       let whole : digitsFrom v (drop i s) ≡ Is v = rw (drop-of-length-le s h) (ap Is (let e : held v ≡ v = omega (arith, w .fits) in e)) in
       sym whole ∙ w .so-far
+
+-- ---- numbers, by how they begin
+
+pub valueIn-empty : (s : List ℕ) → length s ≡ 0 → None ≡ valueIn s
+unfolding valueIn isNumber
+valueIn-empty s e = rw e
+
+pub valueIn-zero : (s : List ℕ) → length s ≡ 1 → getD s 0 0 ≡ 48 → Is 0 ≡ valueIn s
+unfolding valueIn isNumber between
+valueIn-zero [] h e = absurd (omega arith)
+valueIn-zero (b ∷ []) h e = rw e
+valueIn-zero (b ∷ c ∷ l) h e = absurd (omega arith)
+
+pub valueIn-leading : (s : List ℕ) → (length s ≡ 1 → ⊥) → getD s 0 0 ≡ 48 → None ≡ valueIn s
+unfolding valueIn isNumber
+valueIn-leading s h e = rw (ne-eqb (length s) 1 h, e, and-false (ltb 0 (length s)))
+
+pub valueIn-digits : (s : List ℕ) → (length s ≡ 0 → ⊥) → (getD s 0 0 ≡ 48 → ⊥) → digitsFrom 0 s ≡ valueIn s
+unfolding valueIn isNumber digitsFrom
+valueIn-digits s h e = rw (lt-ltb 0 (length s) (omega arith), ne-eqb (getD s 0 0) 48 e, or-true (eqb (length s) 1))
 
 -- ---- words, read up to the i-th byte
 

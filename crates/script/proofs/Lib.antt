@@ -1,5 +1,7 @@
 -- What is proved of the definitions.
 pub mod LinesLaws
 pub mod ItemsLaws
+pub mod CommandLaws
+pub mod ShownLaws
 pub mod ReaderLaws
 pub mod Cases

@@ -10,7 +10,7 @@ use lib.ListN.{length, getD, drop, length-append, drop-of-length-le}
 use lib.Seq.{append-snoc, drop-cons}
 use borrow.Author.Tests.{lt-ltb, eq-eqb, ne-eqb}
 use Rattle.rules.proofs.MapsLaws.{Eq?, same, other, eq?}
-use Rattle.script.specs.Lines.{onto, parted, lineFeed, lines, before}
+use Rattle.script.specs.Lines.{onto, parted, lineFeed, lines, before, Found}
 
 -- the lines of p and then l, where p is the line that is not ended yet
 abbrev pub linesFrom : List ℕ → List ℕ → List (List ℕ)
@@ -44,6 +44,14 @@ linesFrom-nil l = linesFrom-prefixed l [] ∙ prefixed-nil (lines l)
 
 -- ---- looking for a byte
 
+pub length-before : (c : ℕ) (l : List ℕ) → length (before c l) ≤ length l
+length-before c [] = omega arith
+length-before c (b ∷ l) = go (eqb b c) (length-before c l)
+  where
+    go : (t : Bool) → length (before c l) ≤ length l → length (cond t [] (b ∷ before c l)) ≤ suc (length l)
+    go true h = omega arith
+    go false h = omega arith
+
 module _ (s : List ℕ) (c i : ℕ) where
   -- a search for c has come to i
   pub record Sought : Type 0 where
@@ -54,17 +62,17 @@ module _ (s : List ℕ) (c : ℕ) where
   pub sought-start : Sought s c 0
   sought-start = record { within = omega arith; so-far = omega arith }
 
-  pub sought-here : (i : ℕ) → i < length s → getD s i 0 ≡ c → Sought s c i → i ≡ length (before c s)
+  pub sought-here : (i : ℕ) → i < length s → getD s i 0 ≡ c → Sought s c i → Found s c i
   sought-here i h e w =
       let none : length (before c (drop i s)) ≡ 0 = rw (drop-cons s i 0 h, eq-eqb (getD s i 0) c e) in
-      omega arith
+      record { place = omega arith; within = w .within }
 
   pub sought-more : (i : ℕ) → i < length s → (getD s i 0 ≡ c → ⊥) → Sought s c i → Sought s c (i + 1)
   sought-more i h e w =
       let one : length (before c (drop i s)) ≡ suc (length (before c (drop (i + 1) s))) = rw (drop-cons s i 0 h, ne-eqb (getD s i 0) c e, add-one i) in
       omega arith
 
-  pub sought-end : (i : ℕ) → length s ≤ i → Sought s c i → i ≡ length (before c s)
+  pub sought-end : (i : ℕ) → length s ≤ i → Sought s c i → Found s c i
   sought-end i h w =
       let none : length (before c (drop i s)) ≡ 0 = rw (drop-of-length-le s h) in
-      omega arith
+      record { place = omega arith; within = w .within }

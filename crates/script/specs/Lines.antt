@@ -1,8 +1,10 @@
 -- Bytes in lines.
 use mathlib.Core.Bool.{Bool, true, false, cond}
 use mathlib.Core.List.{List, [], _∷_}
-use Prim.Native.Nat.{ℕ}
+use mathlib.Core.Path.{_≡_}
+use Prim.Native.Nat.{ℕ, _≤_}
 use lib.Dec.{eqb}
+use lib.ListN.{length}
 
 -- b, before the first of these
 abbrev pub onto : ℕ → List (List ℕ) → List (List ℕ)
@@ -25,3 +27,8 @@ lines l = parted lineFeed [] l
 abbrev pub before : ℕ → List ℕ → List ℕ
 before c [] = []
 before c (b ∷ l) = cond (eqb b c) [] (b ∷ before c l)
+
+-- r is the place of the first c in s, or the length of s where there is none
+pub record Found (s : List ℕ) (c r : ℕ) : Type 0 where
+  pub place : r ≡ length (before c s)
+  pub within : r ≤ length s

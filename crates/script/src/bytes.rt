@@ -1,11 +1,9 @@
 // Looking for a byte.
-ghost use mathlib.Core.Path.{_≡_};
-ghost use lib.ListN.{length};
-ghost use Rattle.script.specs.Lines.{before};
+ghost use Rattle.script.specs.Lines.{Found};
 
 // The place of the first c, or the length where there is none.
 pub fn find(s: &[u8], c: u8) -> usize
-    ensures { λ r. ⌜ r ≡ length (before c (now (s .entry))) ⌝ }
+    ensures { λ r. ⌜ Found (now (s .entry)) c r ⌝ }
 {
     let mut i = 0;
     while i < s.len() {

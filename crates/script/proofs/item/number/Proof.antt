@@ -1,33 +1,27 @@
+-- `item::number` meets its contract: no byte, `0` alone, a leading `0`, and any other digits.
 use borrow.Author.Needs.{needs}
+use mathlib.Core.Path.{_∙_}
+use Rattle.script.proofs.ItemsLaws.{valueIn-empty, valueIn-zero, valueIn-leading, valueIn-digits}
 use Rattle.script.proofs.item.number.Statement.{statement}
 use Rattle.script.proofs.item.number.Tie as tie
-use Rattle.script.proofs.item.number.Reads as reads
-use Rattle.script.proofs.item.number.Lts as lts
-use Rattle.script.proofs.item.digits.Reads as digits-reads
 
--- src/item.rt:42:9
 returns : tie.Need-returns
-returns c = search needs
+returns c = valueIn-empty _ (c .if1 .taken)
 
--- src/item.rt:44:8
 shared-slice-read-if2 : tie.Need-shared-slice-read-if2
 shared-slice-read-if2 c = search needs
 
--- src/item.rt:46:13
 returns-2 : tie.Need-returns-2
-returns-2 c = search needs
+returns-2 c = valueIn-zero _ (c .if3 .taken) (c .before .if2 .taken)
 
--- src/item.rt:48:9
 returns-3 : tie.Need-returns-3
-returns-3 c = search needs
+returns-3 c = valueIn-leading _ (c .if3 .left) (c .before .if2 .taken)
 
--- src/item.rt:50:5
 digits-requires : tie.Need-digits-requires
 digits-requires c κs = search needs
 
--- src/item.rt:38:1
 returns-4 : tie.Need-returns-4
-returns-4 c = search needs
+returns-4 c = c .digits .ensures ∙ valueIn-digits _ (c .before .before .before .if1 .left) (c .before .if2 .left)
 
 pub number-spec : {M : Type 1} → statement M
 number-spec =

@@ -1,24 +1,26 @@
-use borrow.Author.Needs.{needs}
+-- `line::numbered` meets its contract: `G`, `A`, `R`, and any other letter.
+use Rattle.script.specs.Shown.{numbered}
+use borrow.Author.Tests.{ne-eqb}
 use Rattle.script.proofs.line.numbered.Statement.{statement}
 use Rattle.script.proofs.line.numbered.Tie as tie
-use Rattle.script.proofs.line.numbered.Reads as reads
-use Rattle.script.proofs.line.numbered.Lts as lts
 
--- src/line.rt:86:1
 returns : tie.Need-returns
-returns c = search needs
+unfolding numbered
+returns c = rw (c .match .keys1)
 
--- src/line.rt:86:1
 returns-2 : tie.Need-returns-2
-returns-2 c = search needs
+unfolding numbered
+returns-2 c = rw (c .match .keys2)
 
--- src/line.rt:86:1
 returns-3 : tie.Need-returns-3
-returns-3 c = search needs
+unfolding numbered
+returns-3 c = rw (c .match .keys3)
 
--- src/line.rt:86:1
 returns-4 : tie.Need-returns-4
-returns-4 c = search needs
+unfolding numbered
+returns-4 c = 
+    let x = c .before .args .c in
+    rw (ne-eqb x 71 (c .match .rest .0 .0 .1), ne-eqb x 65 (c .match .rest .0 .1), ne-eqb x 82 (c .match .rest .1))
 
 pub numbered-spec : {M : Type 1} → statement M
 numbered-spec = tie.close (tie.spec returns returns-2 returns-3 returns-4)

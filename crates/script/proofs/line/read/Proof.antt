@@ -1,50 +1,43 @@
+-- `line::read` meets its contract: a line that is too long, has no letter, has one item, and any other.
 use borrow.Author.Needs.{needs}
+use mathlib.Core.Path.{sym, ap, _∙_}
+use Rattle.script.specs.Shown.{shown}
+use Rattle.script.proofs.CommandLaws.{command-long, command-letter, command-one, command-rest}
 use Rattle.script.proofs.line.read.Statement.{statement}
 use Rattle.script.proofs.line.read.Tie as tie
-use Rattle.script.proofs.line.read.Reads as reads
-use Rattle.script.proofs.line.read.Lts as lts
-use Rattle.script.proofs.bytes.find.Reads as find-reads
-use Rattle.script.proofs.line.after_letter.Reads as after-letter-reads
 
--- src/line.rt:32:9
 returns : tie.Need-returns
-returns c = search needs
+unfolding shown
+returns c = rw (command-long _ (c .if1 .taken))
 
--- src/line.rt:34:9
 find-requires : tie.Need-find-requires
 find-requires c κs = search needs
 
--- src/line.rt:36:9
 returns-2 : tie.Need-returns-2
-returns-2 c = search needs
+unfolding shown
+returns-2 c = rw (command-letter _ (λ e. c .if2 .taken (c .before .find .ensures .place ∙ e)))
 
--- src/line.rt:39:9
 returns-3 : tie.Need-returns-3
-returns-3 c = search needs
+unfolding shown
+returns-3 c = rw (command-one _ (sym (c .before .before .find .ensures .place) ∙ c .before .if2 .left) (c .if3 .taken))
 
--- src/line.rt:41:18
 shared-slice-read-after-letter : tie.Need-shared-slice-read-after-letter
 shared-slice-read-after-letter c = search needs
 
--- src/line.rt:41:24
 sub-after-letter : tie.Need-sub-after-letter
 sub-after-letter c = search needs
 
--- src/line.rt:41:24
 part-after-letter-start : tie.Need-part-after-letter-start
 part-after-letter-start c = search needs
 
--- src/line.rt:41:24
 part-after-letter-end : tie.Need-part-after-letter-end
 part-after-letter-end c = search needs
 
--- src/line.rt:41:5
 after-letter-requires : tie.Need-after-letter-requires
 after-letter-requires c κs = search needs
 
--- src/line.rt:28:1
 returns-4 : tie.Need-returns-4
-returns-4 c = search needs
+returns-4 c = c .after-letter .ensures ∙ ap shown (command-rest _ (c .before .before .before .before .before .before .if1 .left) (sym (c .before .before .before .before .before .find .ensures .place) ∙ c .before .before .before .before .if2 .left) (c .before .before .before .if3 .left))
 
 pub read-spec : {M : Type 1} → statement M
 read-spec =

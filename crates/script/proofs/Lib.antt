@@ -3,5 +3,6 @@ pub mod LinesLaws
 pub mod ItemsLaws
 pub mod CommandLaws
 pub mod ShownLaws
+pub mod GatheredLaws
 pub mod ReaderLaws
 pub mod Cases

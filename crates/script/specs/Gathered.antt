@@ -15,11 +15,15 @@ emptied = record { bytes = replicate 80 0; len = 0; long = false }
 abbrev pub begunOf : Collector → Begun
 begunOf c = record { bytes = take (c .len) (c .bytes); long = c .long }
 
+-- a further byte: it is stored, or the line is too long
+abbrev pub storing : Collector → ℕ → Collector
+storing c b = record { bytes = set (c .bytes) (c .len) b; len = c .len + 1; long = c .long }
+
+abbrev pub overrun : Collector → Collector
+overrun c = record { bytes = c .bytes; len = c .len; long = true }
+
 unfoldable pub pushed : Collector → ℕ → Collector
-pushed c b =
-    cond (ltb (c .len) 80)
-    (record { bytes = set (c .bytes) (c .len) b; len = c .len + 1; long = c .long })
-    (record { bytes = c .bytes; len = c .len; long = true })
+pushed c b = cond (ltb (c .len) 80) (storing c b) (overrun c)
 
 abbrev pub extended : Collector → List ℕ → Collector
 extended c [] = c

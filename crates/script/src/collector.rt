@@ -2,7 +2,7 @@
 use crate::line;
 use crate::line::Line;
 ghost use mathlib.Core.Path.{_≡_};
-ghost use Prim.Native.Nat.{min};
+ghost use Prim.Native.Nat.{_≤_};
 ghost use lib.ListN.{length};
 ghost use Rattle.script.specs.Reader.{commandIn};
 ghost use Rattle.script.specs.Shown.{shown};
@@ -54,7 +54,7 @@ impl Collector {
 
     // How many of the bytes are the line's.
     pub fn size(self) -> usize
-        ensures { λ r. ⌜ r ≡ length (begunOf self .bytes) ⌝ }
+        ensures { λ r. ⌜ (r ≡ length (begunOf self .bytes)) × (r ≤ 80) ⌝ }
     {
         let n = self.len;
         if n < 80 {

@@ -1,12 +1,12 @@
-use borrow.Author.Needs.{needs}
+-- `Collector::new` meets its contract.
+use mathlib.Core.Path.{refl}
+use Rattle.script.specs.Gathered.{emptied}
 use Rattle.script.proofs.collector.Collector.new.Statement.{statement}
 use Rattle.script.proofs.collector.Collector.new.Tie as tie
-use Rattle.script.proofs.collector.Collector.new.Reads as reads
-use Rattle.script.proofs.collector.Collector.new.Lts as lts
 
--- src/collector.rt:19:5
 returns : tie.Need-returns
-returns c = search needs
+unfolding emptied
+returns c = refl
 
 pub new-spec : {M : Type 1} → statement M
 new-spec = tie.close (tie.spec returns)

@@ -1,34 +1,34 @@
+-- `Collector::read` meets its contract: a line that is too long, and any other.
+use native.Mathlib.Omega.{arith}
 use borrow.Author.Needs.{needs}
+use mathlib.Core.Path.{_≡_, sym, _∙_}
+use lib.ListN.{length}
+use lib.Seq.{length-take-le}
+use Rattle.script.proofs.GatheredLaws.{begun-long, begun-short}
 use Rattle.script.proofs.collector.Collector.read.Statement.{statement}
 use Rattle.script.proofs.collector.Collector.read.Tie as tie
-use Rattle.script.proofs.collector.Collector.read.Reads as reads
-use Rattle.script.proofs.collector.Collector.read.Lts as lts
-use Rattle.script.proofs.collector.Collector.size.Reads as size-reads
-use Rattle.script.proofs.line.read.Reads as read-reads
 
--- src/collector.rt:70:13
 returns : tie.Need-returns
-returns c = search needs
+returns c = begun-long (c .before .args .self) (c .if1 .taken)
 
--- src/collector.rt:73:13
 size-requires : tie.Need-size-requires
 size-requires c κs = search needs
 
--- src/collector.rt:74:20
 array-share-prefix-bytes : tie.Need-array-share-prefix-bytes
-array-share-prefix-bytes c = search needs
+array-share-prefix-bytes c = 
+    let full : length (c .before .before .before .args .self .bytes) ≡ 80 = search needs in
+    omega arith
 
--- src/collector.rt:74:20
 slice-aggregate-read : tie.Need-slice-aggregate-read
-slice-aggregate-read c = search needs
+slice-aggregate-read c = 
+    let full : length (c .before .before .before .before .args .self .bytes) ≡ 80 = search needs in
+    sym (length-take-le _ _ (omega arith))
 
--- src/collector.rt:74:9
 read-requires : tie.Need-read-requires
 read-requires c κs = search needs
 
--- src/collector.rt:66:5
 returns-2 : tie.Need-returns-2
-returns-2 c = search needs
+returns-2 c = c .read .ensures ∙ begun-short (c .before .before .before .before .before .args .self) (c .before .before .before .before .if1 .left) (c .before .before .size .ensures .0)
 
 pub read-spec : {M : Type 1} → statement M
 read-spec =

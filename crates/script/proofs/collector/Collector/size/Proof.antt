@@ -1,16 +1,22 @@
+-- `Collector::size` meets its contract: fewer bytes than 80, and all of them.
+use native.Mathlib.Omega.{arith}
 use borrow.Author.Needs.{needs}
+use mathlib.Core.Path.{_≡_, sym, _∙_}
+use lib.ListN.{length, length-take}
 use Rattle.script.proofs.collector.Collector.size.Statement.{statement}
 use Rattle.script.proofs.collector.Collector.size.Tie as tie
-use Rattle.script.proofs.collector.Collector.size.Reads as reads
-use Rattle.script.proofs.collector.Collector.size.Lts as lts
 
--- src/collector.rt:61:13
 returns : tie.Need-returns
-returns c = search needs
+returns c = 
+    let s = c .before .args .self in
+    let full : length (s .bytes) ≡ 80 = search needs in
+    (omega (arith, length-take (s .len) (s .bytes)), omega arith)
 
--- src/collector.rt:56:5
 returns-2 : tie.Need-returns-2
-returns-2 c = search needs
+returns-2 c = 
+    let s = c .before .args .self in
+    let full : length (s .bytes) ≡ 80 = search needs in
+    (omega (arith, length-take (s .len) (s .bytes)), omega arith)
 
 pub size-spec : {M : Type 1} → statement M
 size-spec = tie.close (tie.spec returns returns-2)

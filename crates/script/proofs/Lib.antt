@@ -4,5 +4,7 @@ pub mod ItemsLaws
 pub mod CommandLaws
 pub mod ShownLaws
 pub mod GatheredLaws
+pub mod PrintLaws
+pub mod WrittenLaws
 pub mod ReaderLaws
 pub mod Cases

@@ -4,10 +4,9 @@ ghost use mathlib.Core.Path.{_≡_};
 ghost use mathlib.Core.List.{[], _∷_, _++_};
 ghost use Prim.Native.Nat.{_+_, _≤_};
 ghost use lib.ListN.{length};
-ghost use lib.Seq.{sets};
 ghost use Rattle.script.specs.Desk.{unknown, answers, took};
-ghost use Rattle.script.specs.Print.{decimal, groupLine, noGroupLine, replyLine};
-ghost use Rattle.script.specs.Written.{Wrote};
+ghost use Rattle.script.specs.Print.{decimal, joined, groupLine, noGroupLine, replyItems, replyLine};
+ghost use Rattle.script.specs.Written.{Put, Wrote};
 
 // How many digits x has.
 fn places(x: u32) -> usize
@@ -25,7 +24,7 @@ fn places(x: u32) -> usize
 // Puts x and the byte that ends it, and answers the next place.
 fn put_number(out: &mut [u8], at: usize, x: u32, end: u8) -> usize
     requires { ⌜ at + length (decimal x) + 1 ≤ length (now out) ⌝ }
-    ensures { λ r. ⌜ (r ≡ at + length (decimal x) + 1) × (now (out .exit) ≡ sets (now (out .entry)) at (decimal x ++ (end ∷ []))) ⌝ }
+    ensures { λ r. ⌜ Put (now (out .entry)) at (decimal x ++ (end ∷ [])) r (now (out .exit)) ⌝ }
 {
     let stop = at + places(x);
     out[stop] = end;
@@ -43,7 +42,7 @@ fn put_number(out: &mut [u8], at: usize, x: u32, end: u8) -> usize
 // Puts all of s, and answers the next place.
 fn put(out: &mut [u8], at: usize, s: &[u8]) -> usize
     requires { ⌜ at + length (now s) ≤ length (now out) ⌝ }
-    ensures { λ r. ⌜ (r ≡ at + length (now (s .entry))) × (now (out .exit) ≡ sets (now (out .entry)) at (now (s .entry))) ⌝ }
+    ensures { λ r. ⌜ Put (now (out .entry)) at (now (s .entry)) r (now (out .exit)) ⌝ }
 {
     let mut i = 0;
     while i < s.len() {
@@ -93,7 +92,18 @@ pub fn unknown_line(out: &mut [u8], line: u32) -> usize
     put(out, a, b"?\n")
 }
 
-// What a successful take adds is its sender, number and word.
+// What a successful take adds to the line number: its answer, sender, number and word.
+fn put_taken(out: &mut [u8], at: usize, sender: u32, number: u32, word: &[u8]) -> usize
+    requires { ⌜ at + length (joined (replyItems (took sender number (now word)))) ≤ length (now out) ⌝ }
+    ensures { λ r. ⌜ Put (now (out .entry)) at (joined (replyItems (took sender number (now (word .entry))))) r (now (out .exit)) ⌝ }
+{
+    let a = put(out, at, b"0 ");
+    let b = put_number(out, a, sender, b' ');
+    let c = put_number(out, b, number, b' ');
+    let d = put(out, c, word);
+    put(out, d, b"\n")
+}
+
 pub fn taken_line(out: &mut [u8], line: u32, sender: u32, number: u32, word: &[u8]) -> usize
     ensures { λ r. ⌜ Wrote (now (out .entry)) (replyLine line (took sender number (now (word .entry)))) r (now (out .exit)) ⌝ }
 {
@@ -105,9 +115,5 @@ pub fn taken_line(out: &mut [u8], line: u32, sender: u32, number: u32, word: &[u
         return 0;
     }
     let a = put_number(out, 0, line, b' ');
-    let b = put_number(out, a, 0, b' ');
-    let c = put_number(out, b, sender, b' ');
-    let d = put_number(out, c, number, b' ');
-    let e = put(out, d, word);
-    put(out, e, b"\n")
+    put_taken(out, a, sender, number, word)
 }

@@ -1,29 +1,26 @@
+-- `print::no_group_line` meets its contract: the output is too short, or the text is put there.
 use borrow.Author.Needs.{needs}
+use Rattle.script.specs.Print.{noGroupLine}
+use Rattle.script.proofs.WrittenLaws.{put-wrote, short-wrote}
 use Rattle.script.proofs.print.no_group_line.Statement.{statement}
 use Rattle.script.proofs.print.no_group_line.Tie as tie
-use Rattle.script.proofs.print.no_group_line.Reads as reads
-use Rattle.script.proofs.print.no_group_line.Lts as lts
-use Rattle.script.proofs.print.put.Reads as put-reads
 
--- src/print.rt:71:9
 returns : tie.Need-returns
-returns c = search needs
+unfolding noGroupLine
+returns c = short-wrote _ noGroupLine (c .if1 .taken)
 
--- src/print.rt:73:17
 slice-aggregate-put : tie.Need-slice-aggregate-put
 slice-aggregate-put c = search needs
 
--- src/print.rt:73:5
 put-requires : tie.Need-put-requires
 put-requires c κs = search needs
 
--- src/print.rt:67:1
 same-length : tie.Need-same-length
 same-length c = search needs
 
--- src/print.rt:67:1
 returns-2 : tie.Need-returns-2
-returns-2 c = search needs
+unfolding noGroupLine
+returns-2 c = put-wrote _ noGroupLine (c .before .before .before .before .before .if1 .left) (c .before .before .put .ensures)
 
 pub no-group-line-spec : {M : Type 1} → statement M
 no-group-line-spec =

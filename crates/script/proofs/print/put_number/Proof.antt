@@ -1,79 +1,67 @@
+-- `print::put_number` meets its contract. The loop's invariant: what is spelt, with the digits of what is left, is the whole number.
+use native.Mathlib.Omega.{arith}
 use borrow.Author.Needs.{needs}
+use mathlib.Core.Path.{_≡_, ap}
+use lib.ListN.{length, length-set}
+use Prim.Native.Nat.{_+_}
+use Rattle.script.specs.Print.{decimal}
+use Rattle.script.proofs.WrittenLaws.{Spelling, spelling-start, spelling-place, spelling-more, spelling-end, spelt-put}
 use Rattle.script.proofs.print.put_number.Statement.{statement}
 use Rattle.script.proofs.print.put_number.Tie as tie
-use Rattle.script.proofs.print.put_number.Reads as reads
-use Rattle.script.proofs.print.put_number.Lts as lts
-use Rattle.script.proofs.print.places.Reads as places-reads
 
 abbrev Inv-loop : tie.InvT-loop
-Inv-loop out₀ at x end stop i₀ rest₀ out i rest = ?
+Inv-loop out₀ at x end stop i₀ rest₀ out i rest = Spelling out₀ at x out i rest
 
 abbrev μ-loop : tie.MeasureT-loop
-μ-loop out₀ at x end stop i₀ rest₀ out i rest = ?
+μ-loop out₀ at x end stop i₀ rest₀ out i rest = rest
 
--- src/print.rt:30:21
 places-requires : tie.Need-places-requires Inv-loop μ-loop
 places-requires c κs = search needs
 
--- src/print.rt:30:16
 add-stop : tie.Need-add-stop Inv-loop μ-loop
 add-stop c = search needs
 
--- src/print.rt:31:5
 slice-write-out : tie.Need-slice-write-out Inv-loop μ-loop
-slice-write-out c = search needs
+slice-write-out c = omega arith
 
--- src/print.rt:34:5
 loop-holds : tie.Need-loop-holds Inv-loop μ-loop
-loop-holds c = search needs
+loop-holds c = spelling-start _ _ _ _ (let e = c .places .ensures .0 in omega arith)
 
--- src/print.rt:35:9
 sub-i : tie.Need-sub-i Inv-loop μ-loop
-sub-i c = search needs
+sub-i c = omega (arith, spelling-place _ _ _ _ _ _ (c .loop-test .taken) (c .before .loop .inv))
 
--- src/print.rt:36:23
 cast-out : tie.Need-cast-out Inv-loop μ-loop
-cast-out c = search needs
+cast-out c = omega arith
 
--- src/print.rt:36:18
 add-out : tie.Need-add-out Inv-loop μ-loop
-add-out c = search needs
+add-out c = omega arith
 
--- src/print.rt:36:9
 slice-write-out-2 : tie.Need-slice-write-out-2 Inv-loop μ-loop
-slice-write-out-2 c = search needs
+slice-write-out-2 c = omega (arith, spelling-place _ _ _ _ _ _ (c .loop-test .taken) (c .before .loop .inv), simp length-set at (c .before .loop .inv .long))
 
--- src/print.rt:34:5
 loop-less : tie.Need-loop-less Inv-loop μ-loop
-loop-less c = search needs
+loop-less c = omega arith
 
--- src/print.rt:34:5
 loop-again : tie.Need-loop-again Inv-loop μ-loop
-loop-again c = search needs
+loop-again c = spelling-more _ _ _ _ _ _ (c .loop-test .taken) (c .before .loop .inv)
 
--- src/print.rt:39:20
 cast-out-2 : tie.Need-cast-out-2 Inv-loop μ-loop
-cast-out-2 c = search needs
+cast-out-2 c = omega arith
 
--- src/print.rt:39:15
 add-out-2 : tie.Need-add-out-2 Inv-loop μ-loop
-add-out-2 c = search needs
+add-out-2 c = omega arith
 
--- src/print.rt:39:5
 slice-write-out-3 : tie.Need-slice-write-out-3 Inv-loop μ-loop
-slice-write-out-3 c = search needs
+slice-write-out-3 c = omega (arith, simp length-set at (c .before .loop .inv .long))
 
--- src/print.rt:40:5
 add-result : tie.Need-add-result Inv-loop μ-loop
-add-result c = search needs
+add-result c = omega arith
 
--- src/print.rt:26:1
 same-length : tie.Need-same-length Inv-loop μ-loop
-same-length c = search needs
+same-length c = simp length-set (simp length-set at (c .before .loop .inv .long))
 
--- src/print.rt:26:1
 returns : tie.Need-returns Inv-loop μ-loop
-returns c = search needs
+returns c = spelt-put _ _ _ _ _ (omega arith) (spelling-end _ _ _ _ _ _ (c .loop-test .left) (c .before .loop .inv))
 
 pub put-number-spec : {M : Type 1} → statement M
 put-number-spec =

@@ -1,0 +1,165 @@
+-- Laws of writing to lent output: by single bytes, by texts one after the other, and whole.
+use mathlib.Core.Bool.{Bool, true, false, cond}
+use mathlib.Core.List.{List, [], _∷_, _++_}
+use mathlib.Core.Path.{_≡_, refl, sym, ap, _∙_}
+use Prim.Native.Nat.{ℕ, zero, suc, _+_, _-_, _/_, _%_, _<_, _≤_}
+use native.Mathlib.Nat.{add-zero, zero-add}
+use native.Mathlib.Numerals.{add-one}
+use native.Mathlib.Omega.{arith}
+use lib.ListN.{length, getD, take, drop, set, length-append, length-set, drop-of-length-le}
+use lib.Seq.{sets, length-sets, sets-eq, set-comm, drop-cons, append-snoc}
+use borrow.Author.Tests.{le-leb, lt-leb}
+use Rattle.rules.specs.Calls.{written}
+use Rattle.script.specs.Lines.{lineFeed}
+use Rattle.script.specs.Items.{space}
+use Rattle.script.specs.Desk.{took}
+use Rattle.script.specs.Print.{decimal, joined, replyItems}
+use Rattle.script.specs.Written.{Put, Wrote}
+use Rattle.script.proofs.PrintLaws.{decimal-one, decimal-more, length-decimal}
+
+-- ---- runs of stores
+
+sets-++ : (a b l : List ℕ) (i : ℕ) → sets l i (a ++ b) ≡ sets (sets l i a) (i + length a) b
+sets-++ [] b l i = ap (λ (k : ℕ). sets l k b) (sym (add-zero i))
+sets-++ (x ∷ a) b l i =
+    sets-++ a b (set l i x) (suc i) ∙ ap (λ (k : ℕ). sets (sets (set l i x) (suc i) a) k b) (let e : suc i + length a ≡ i + suc (length a) = omega arith in e)
+
+-- a store behind the run
+sets-set : (a l : List ℕ) (i j x : ℕ) → i + length a ≤ j → set (sets l i a) j x ≡ sets (set l j x) i a
+sets-set [] l i j x h = refl
+sets-set (y ∷ a) l i j x h =
+    sets-set a (set l i y) (suc i) j x (omega arith)
+    ∙ ap (λ (m : List ℕ). sets m (suc i) a) (set-comm l i j y x (λ e. let z : i ≡ j = e in omega arith))
+
+sets-snoc : (a l : List ℕ) (i x : ℕ) → sets l i (a ++ (x ∷ [])) ≡ sets (set l (i + length a) x) i a
+sets-snoc a l i x = sets-++ a (x ∷ []) l i ∙ sets-set a l i (i + length a) x (omega arith)
+
+-- ---- texts
+
+pub put-then : {out mid after a b : List ℕ} {at next end : ℕ} → Put out at a next mid → Put mid next b end after → Put out at (a ++ b) end after
+put-then {out} {mid} {after} {a} {b} {at} {next} {end} p q = record {
+  bytes = q .bytes ∙ rw (p .bytes, p .place) (sym (sets-++ a b out at));
+  place = omega (arith, q .place, p .place, length-append a b);
+  long = q .long ∙ p .long;
+}
+
+-- an item, a space, and the rest of the line
+pub put-item : (x y : List ℕ) (l : List (List ℕ)) {out mid after : List ℕ} {at next end : ℕ}
+    → Put out at (x ++ (space ∷ [])) next mid → Put mid next (joined (y ∷ l)) end after → Put out at (joined (x ∷ y ∷ l)) end after
+put-item x y l p q = rw (← append-snoc x space (joined (y ∷ l))) (put-then p q)
+
+pub length-joined : (x y : List ℕ) (l : List (List ℕ)) → length (joined (x ∷ y ∷ l)) ≡ length x + 1 + length (joined (y ∷ l))
+length-joined x y l = length-append x (space ∷ joined (y ∷ l)) ∙ omega arith
+
+pub length-joined-last : (x : List ℕ) → length (joined (x ∷ [])) ≡ length x + 1
+length-joined-last x = length-append x (lineFeed ∷ [])
+
+pub length-taken : (j x : ℕ) (word : List ℕ)
+    → length (joined (replyItems (took j x word))) ≡ length (decimal j) + length (decimal x) + length word + 5
+unfolding decimal
+length-taken j x word =
+    omega (
+      arith,
+      length-joined (decimal 0) (decimal j) (decimal x ∷ word ∷ []),
+      length-joined (decimal j) (decimal x) (word ∷ []),
+      length-joined (decimal x) word [],
+      length-joined-last word,
+    )
+
+-- the whole text fitted
+pub put-wrote : (out text : List ℕ) {r : ℕ} {after : List ℕ} → length text ≤ length out → Put out 0 text r after → Wrote out text r after
+put-wrote out text h p =
+    record { count = rw (le-leb (length text) (length out) h) (p .place ∙ zero-add (length text)); bytes = rw (le-leb (length text) (length out) h) (p .bytes ∙ whole) }
+  where
+    whole : sets out 0 text ≡ written out text
+    whole = sets-eq text out 0 (omega arith) ∙ ap (λ (n : ℕ). text ++ drop n out) (zero-add (length text))
+
+pub short-wrote : (out text : List ℕ) → length out < length text → Wrote out text 0 out
+short-wrote out text h = record { count = rw (lt-leb (length text) (length out) h); bytes = rw (lt-leb (length text) (length out) h) }
+
+-- ---- a text copied up to its i-th byte
+
+module _ (first : List ℕ) (at : ℕ) (s out : List ℕ) (i : ℕ) where
+  pub record Copying : Type 0 where
+    pub within : i ≤ length s
+    pub so-far : sets out (at + i) (drop i s) ≡ sets first at s
+    pub long : length out ≡ length first
+
+module _ (first : List ℕ) (at : ℕ) (s : List ℕ) where
+  pub copying-start : Copying first at s first 0
+  copying-start = record { within = omega arith; so-far = ap (λ (k : ℕ). sets first k s) (add-zero at); long = refl }
+
+  pub copying-more : (out : List ℕ) (i : ℕ) → i < length s → Copying first at s out i → Copying first at s (set out (at + i) (getD s i 0)) (i + 1)
+  copying-more out i h w =
+      let e : at + (i + 1) ≡ suc (at + i) = omega arith in
+      record {
+        within = omega arith;
+        so-far = rw (e, add-one i) (rw (drop-cons s i 0 h) at (w .so-far));
+        long = length-set out (at + i) (getD s i 0) ∙ w .long;
+      }
+
+  pub copying-end : (out : List ℕ) (i : ℕ) → length s ≤ i → Copying first at s out i → Put first at s (at + i) out
+  copying-end out i h w = record {
+    bytes = rw (drop-of-length-le s h) at (w .so-far);
+    place = omega (arith, w .within);
+    long = w .long;
+  }
+
+-- ---- the digits of x, counted: k of them are passed, and `rest` is left
+
+module _ (x k rest : ℕ) where
+  pub record Measured : Type 0 where
+    pub so-far : k + length (decimal rest) ≡ 1 + length (decimal x)
+    pub bound : length (decimal x) ≤ suc x
+
+module _ (x : ℕ) where
+  pub measured-start : Measured x 1 x
+  measured-start = record { so-far = refl; bound = length-decimal x }
+
+  pub measured-more : (k rest : ℕ) → 10 ≤ rest → Measured x k rest → Measured x (k + 1) (rest / 10)
+  measured-more k rest h w =
+      let e : length (decimal rest) ≡ length (decimal (rest / 10)) + 1 = ap length (decimal-more rest h) ∙ length-append (decimal (rest / 10)) ((48 + rest % 10) ∷ []) in
+      record { so-far = omega (arith, w .so-far); bound = w .bound }
+
+  pub measured-end : (k rest : ℕ) → rest < 10 → Measured x k rest → k ≡ length (decimal x)
+  measured-end k rest h w = omega (arith, w .so-far, ap length (decimal-one rest h))
+
+-- ---- the digits of x, spelt from the last to the i-th place: `rest` is left
+
+module _ (first : List ℕ) (at x : ℕ) (out : List ℕ) (i rest : ℕ) where
+  pub record Spelling : Type 0 where
+    pub place : i ≡ at + length (decimal rest)
+    pub within : i ≤ at + length (decimal x)
+    pub so-far : sets out at (decimal rest) ≡ sets first at (decimal x)
+    pub long : length out ≡ length first
+
+module _ (first : List ℕ) (at x : ℕ) where
+  pub spelling-start : (i : ℕ) → i ≡ at + length (decimal x) → Spelling first at x first i x
+  spelling-start i e = record { place = e; within = omega arith; so-far = refl; long = refl }
+
+  -- there is a place before the i-th
+  pub spelling-place : (out : List ℕ) (i rest : ℕ) → 10 ≤ rest → Spelling first at x out i rest → i ≡ at + length (decimal (rest / 10)) + 1
+  spelling-place out i rest h w = omega (arith, w .place, ap length (decimal-more rest h) ∙ length-append (decimal (rest / 10)) ((48 + rest % 10) ∷ []))
+
+  pub spelling-more : (out : List ℕ) (i rest : ℕ) → 10 ≤ rest → Spelling first at x out i rest
+      → Spelling first at x (set out (i - 1) (48 + rest % 10)) (i - 1) (rest / 10)
+  spelling-more out i rest h w =
+      let e : i - 1 ≡ at + length (decimal (rest / 10)) = omega (arith, spelling-place out i rest h w) in
+      record {
+        place = e;
+        within = omega (arith, w .within);
+        so-far = rw e (sym (sets-snoc (decimal (rest / 10)) out at (48 + rest % 10)) ∙ rw (decimal-more rest h) at (w .so-far));
+        long = length-set out (i - 1) (48 + rest % 10) ∙ w .long;
+      }
+
+  pub spelling-end : (out : List ℕ) (i rest : ℕ) → rest < 10 → Spelling first at x out i rest → set out at (48 + rest) ≡ sets first at (decimal x)
+  spelling-end out i rest h w = rw (decimal-one rest h) at (w .so-far)
+
+-- x and the byte that ends it
+pub spelt-put : (out : List ℕ) (at x end stop : ℕ) {after : List ℕ} → stop ≡ at + length (decimal x) → after ≡ sets (set out stop end) at (decimal x)
+    → Put out at (decimal x ++ (end ∷ [])) (stop + 1) after
+spelt-put out at x end stop e h = record {
+  bytes = h ∙ rw e (sym (sets-snoc (decimal x) out at end));
+  place = omega (arith, length-append (decimal x) (end ∷ []));
+  long = ap length h ∙ length-sets (set out stop end) at (decimal x) ∙ length-set out stop end;
+}

@@ -35,7 +35,7 @@ runs =
     -- that unit 2 expects 4 from unit 1 and 2 from itself, so that r is pre-acknowledged, by which unit 2 expects 3 of unit
     -- 1, as q says that unit 1 expects 2: p is confirmed, q is not. There is no frame 7 and no unit 3.
     ∷ ("G 2 2\nS 1 p\nS 1 q\nA 2 2\nR 2 1\nA 1 3\nA 2 1\nA 2 2\nS 2 r\nA 1 4\nS 1 s\nA 2 5\nS 2 t\nT 2\nT 2\nA 2 7\nS 3 x"
-      ⇝ "group 2 2\n2 0\n3 0\n4 9\n5 0\n6 0\n7 0\n8 0\n9 0\n10 0\n11 0\n12 0\n13 0\n14 0 1 1 p\n15 18\n16 ?\n17 ?\n")
+    ⇝ "group 2 2\n2 0\n3 0\n4 9\n5 0\n6 0\n7 0\n8 0\n9 0\n10 0\n11 0\n12 0\n13 0\n14 0 1 1 p\n15 18\n16 ?\n17 ?\n")
     ∷ []
 
 -- ---- first lines
@@ -60,16 +60,16 @@ laters : List Case
 laters =
     -- numbers that are no unit and no frame, however long; `R u k` asks the unit all the same
     ("G 3 2\nS 0 p\nS 4 p\nA 1 0\nA 1 1\nA 1 99999999999\nT 99999999999\nR 1 0\nR 1 1\nR 1 2\nR 1 4\nR 1 99999999999\nR 4 1\nT 1\n"
-      ⇝ "group 3 2\n2 ?\n3 ?\n4 ?\n5 ?\n6 ?\n7 ?\n8 5\n9 5\n10 18\n11 5\n12 5\n13 ?\n14 18\n")
+    ⇝ "group 3 2\n2 ?\n3 ?\n4 ?\n5 ?\n6 ?\n7 ?\n8 5\n9 5\n10 18\n11 5\n12 5\n13 ?\n14 18\n")
     -- spaces, items and letters
     ∷ ("G 2 2\n\n \n S 1 p\nS  1 p\nS 1  p\nS 1 p \nS 1 p q\nS 1\nS\nT\nT 1 1\nA 1\nSS 1 p\ns 1 p\nG 2 2\n"
-      ⇝ "group 2 2\n2 ?\n3 ?\n4 ?\n5 ?\n6 ?\n7 ?\n8 ?\n9 ?\n10 ?\n11 ?\n12 ?\n13 ?\n14 ?\n15 ?\n16 ?\n")
+    ⇝ "group 2 2\n2 ?\n3 ?\n4 ?\n5 ?\n6 ?\n7 ?\n8 ?\n9 ?\n10 ?\n11 ?\n12 ?\n13 ?\n14 ?\n15 ?\n16 ?\n")
     -- numbers and words
     ∷ ("G 2 2\nS 01 p\nS +1 p\nS 1. p\nT 00\nT 0\nT 1\r\nS 1 \tp\nS 1 p\u{7f}\nS 1 !~\n"
-      ⇝ "group 2 2\n2 ?\n3 ?\n4 ?\n5 ?\n6 ?\n7 ?\n8 ?\n9 ?\n10 0\n")
+    ⇝ "group 2 2\n2 ?\n3 ?\n4 ?\n5 ?\n6 ?\n7 ?\n8 ?\n9 ?\n10 0\n")
     -- 80 bytes make a line, with a word that is too long to be sent, and 81 do not
     ∷ ("G 2 2\nS 1 xxxxxxxxxxxxxxxxxxxxxxxxxxxxxxxxxxxxxxxxxxxxxxxxxxxxxxxxxxxxxxxxxxxxxxxxxxxx\nS 1 xxxxxxxxxxxxxxxxxxxxxxxxxxxxxxxxxxxxxxxxxxxxxxxxxxxxxxxxxxxxxxxxxxxxxxxxxxxxx\n"
-      ⇝ "group 2 2\n2 13\n3 ?\n")
+    ⇝ "group 2 2\n2 13\n3 ?\n")
     ∷ []
 
 pub cases : List Case

@@ -97,7 +97,7 @@ module _ (s : List ℕ) where
   pub counted-more : (v i : ℕ) {d r : ℕ} → i < length s → d ≡ digitOf (getD s i 0) → d ≤ 9 → r ≡ held (v * 10 + d) → Counted s v i → Counted s r (i + 1)
   counted-more v i {d} {r} h e x g w =
       let more : digitsFrom v (drop i s) ≡ digitsFrom (v * 10 + d) (drop (i + 1) s)
-          = rw (drop-cons s i 0 h, add-one i, e) (digitsFrom-cons (getD s i 0) (drop (suc i) s) v (omega arith)) in
+      = rw (drop-cons s i 0 h, add-one i, e) (digitsFrom-cons (getD s i 0) (drop (suc i) s) v (omega arith)) in
       record {
         within = omega arith;
         fits = omega arith;

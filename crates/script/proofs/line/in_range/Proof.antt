@@ -25,7 +25,7 @@ returns-3 c = simp (below-between 2 4 (c .before .before .before .args .w) (c .i
 
 returns-4 : tie.Need-returns-4
 unfolding inRange rangesFit between
-returns-4 c = 
+returns-4 c =
     let n = c .before .before .before .args .n in
     let two : 2 ≤ n = c .before .before .if1 .left in
     let three : n ≤ 3 = c .before .if2 .left in

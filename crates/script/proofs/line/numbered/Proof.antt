@@ -18,7 +18,7 @@ returns-3 c = rw (c .match .keys3)
 
 returns-4 : tie.Need-returns-4
 unfolding numbered
-returns-4 c = 
+returns-4 c =
     let x = c .before .args .c in
     rw (ne-eqb x 71 (c .match .rest .0 .0 .1), ne-eqb x 65 (c .match .rest .0 .1), ne-eqb x 82 (c .match .rest .1))
 

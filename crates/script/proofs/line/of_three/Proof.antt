@@ -30,7 +30,7 @@ numbered-requires : tie.Need-numbered-requires
 numbered-requires c κs = search needs
 
 returns-4 : tie.Need-returns-4
-returns-4 c = 
+returns-4 c =
     c .numbered .ensures
     ∙ shown-numbered _ _ _ (search needs) _ (c .before .before .before .before .before .if1 .left) (valueIn-is _ _ (sym (c .before .before .before .before .number .ensures) ∙ c .before .before .x .given .1))
 

@@ -22,7 +22,7 @@ add-if1-2 c = search needs
 
 returns : tie.Need-returns
 unfolding replyLine
-returns c = 
+returns c =
     let a = c .before .before .before .before .args in
     short-wrote _ _ (omega (arith, length-joined (decimal (a .line)) (decimal (a .answer)) [], length-joined-last (decimal (a .answer))))
 
@@ -37,7 +37,7 @@ same-length c = search needs
 
 returns-2 : tie.Need-returns-2
 unfolding replyLine
-returns-2 c = 
+returns-2 c =
     let a = c .before .before .before .before .before .before .before .before .before .before .before .before .args in
     put-wrote _ _ (omega (arith, length-joined (decimal (a .line)) (decimal (a .answer)) [], length-joined-last (decimal (a .answer))))
     (put-item (decimal (a .line)) (decimal (a .answer)) [] (c .before .before .before .before .before .before .put-number .ensures) (c .before .before .put-number2 .ensures))

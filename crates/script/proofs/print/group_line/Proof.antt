@@ -22,7 +22,7 @@ add-if1-2 c = search needs
 
 returns : tie.Need-returns
 unfolding groupLine
-returns c = 
+returns c =
     let n = decimal (c .before .before .before .before .args .n) in
     let w = decimal (c .before .before .before .before .args .w) in
     short-wrote _ _ (omega (arith, length-joined (text "group") n (w ∷ []), length-joined n w [], length-joined-last w))
@@ -44,7 +44,7 @@ same-length c = search needs
 
 returns-2 : tie.Need-returns-2
 unfolding groupLine
-returns-2 c = 
+returns-2 c =
     let n = decimal (c .before .before .before .before .before .before .before .before .before .before .before .before .before .before .before .before .before .args .n) in
     let w = decimal (c .before .before .before .before .before .before .before .before .before .before .before .before .before .before .before .before .before .args .w) in
     put-wrote _ _ (omega (arith, length-joined (text "group") n (w ∷ []), length-joined n w [], length-joined-last w))

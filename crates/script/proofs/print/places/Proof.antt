@@ -26,7 +26,7 @@ loop-again : tie.Need-loop-again Inv-loop μ-loop
 loop-again c = measured-more _ _ _ (c .loop-test .taken) (c .before .loop .inv)
 
 returns : tie.Need-returns Inv-loop μ-loop
-returns c = 
+returns c =
     let w = c .before .loop .inv in
     let e = measured-end _ _ _ (c .loop-test .left) w in
     (e, omega (arith, e, w .bound))

@@ -28,7 +28,7 @@ add-front-3 c = search needs
 
 returns : tie.Need-returns
 unfolding replyLine
-returns c = 
+returns c =
     let a = c .before .before .before .before .before .before .args in
     short-wrote _ _ (omega (arith, length-taken (c .before .before .before .before .before .before .args .sender) (c .before .before .before .before .before .before .args .number) (c .before .before .before .before .before .before .args .word .now), length-joined (decimal (a .line)) (decimal 0) (decimal (a .sender) ∷ decimal (a .number) ∷ a .word .now ∷ [])))
 
@@ -37,7 +37,7 @@ sub-if2 c = search needs
 
 returns-2 : tie.Need-returns-2
 unfolding replyLine
-returns-2 c = 
+returns-2 c =
     let a = c .before .before .before .before .before .before .before .args in
     short-wrote _ _ (omega (arith, length-taken (c .before .before .before .before .before .before .before .args .sender) (c .before .before .before .before .before .before .before .args .number) (c .before .before .before .before .before .before .before .args .word .now), length-joined (decimal (a .line)) (decimal 0) (decimal (a .sender) ∷ decimal (a .number) ∷ a .word .now ∷ [])))
 
@@ -52,7 +52,7 @@ same-length c = search needs
 
 returns-3 : tie.Need-returns-3
 unfolding replyLine
-returns-3 c = 
+returns-3 c =
     let a = c .before .before .before .before .before .before .before .before .before .before .before .before .before .before .before .args in
     let l = decimal (a .sender) ∷ decimal (a .number) ∷ a .word .now ∷ [] in
     put-wrote _ _ (omega (arith, length-taken (c .before .before .before .before .before .before .before .before .before .before .before .before .before .before .before .args .sender) (c .before .before .before .before .before .before .before .before .before .before .before .before .before .before .before .args .number) (c .before .before .before .before .before .before .before .before .before .before .before .before .before .before .before .args .word .now), length-joined (decimal (a .line)) (decimal 0) l))

@@ -32,7 +32,7 @@ same-length c = search needs
 
 returns-2 : tie.Need-returns-2
 unfolding replyLine
-returns-2 c = 
+returns-2 c =
     let k = c .before .before .before .before .before .before .before .before .before .before .before .before .args .line in
     put-wrote _ _ (omega (arith, length-joined (decimal k) (text "?") [])) (put-item (decimal k) (text "?") [] (c .before .before .before .before .before .before .before .put-number .ensures) (c .before .before .put .ensures))
 

@@ -15,12 +15,12 @@ size-requires : tie.Need-size-requires
 size-requires c κs = search needs
 
 array-share-prefix-bytes : tie.Need-array-share-prefix-bytes
-array-share-prefix-bytes c = 
+array-share-prefix-bytes c =
     let full : length (c .before .before .before .args .self .bytes) ≡ 80 = search needs in
     omega arith
 
 slice-aggregate-read : tie.Need-slice-aggregate-read
-slice-aggregate-read c = 
+slice-aggregate-read c =
     let full : length (c .before .before .before .before .args .self .bytes) ≡ 80 = search needs in
     sym (length-take-le _ _ (omega arith))
 

@@ -7,13 +7,13 @@ use Rattle.script.proofs.collector.Collector.size.Statement.{statement}
 use Rattle.script.proofs.collector.Collector.size.Tie as tie
 
 returns : tie.Need-returns
-returns c = 
+returns c =
     let s = c .before .args .self in
     let full : length (s .bytes) ≡ 80 = search needs in
     (omega (arith, length-take (s .len) (s .bytes)), omega arith)
 
 returns-2 : tie.Need-returns-2
-returns-2 c = 
+returns-2 c =
     let s = c .before .args .self in
     let full : length (s .bytes) ≡ 80 = search needs in
     (omega (arith, length-take (s .len) (s .bytes)), omega arith)

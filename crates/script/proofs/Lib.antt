@@ -6,5 +6,7 @@ pub mod ShownLaws
 pub mod GatheredLaws
 pub mod PrintLaws
 pub mod WrittenLaws
+pub mod HeldLaws
+pub mod SaidLaws
 pub mod ReaderLaws
 pub mod Cases

@@ -62,20 +62,30 @@ shown-two c u = go (eqb c (code "T"))
 
 -- ---- lines of three items
 
-pub shown-three : (c u : ℕ) (z : List ℕ) → shown (ofThree c (held u) z) ≡ shown (ofThree c u z)
-unfolding shown ofThree
-shown-three c u z =
-    go (eqb c (code "S") && isWord z) (eqb c (code "G") && isNumber z) (eqb c (code "A") && isNumber z) (eqb c (code "R") && isNumber z)
-  where
-    of : ℕ → Bool → Bool → Bool → Bool → Command
-    of x s g a r = cond s (sends x z) (cond g (groups x (value z)) (cond a (arrives x (value z)) (cond r (requests x (value z)) unreadable)))
+-- what holds of each command of three items holds of the one that they are
+module _ (c : ℕ) (z : List ℕ) (P : (ℕ → Command) → Type 0) where
+  pub three-cases : P (λ u. sends u z) → P (λ u. groups u (value z)) → P (λ u. arrives u (value z)) → P (λ u. requests u (value z))
+      → P (λ u. unreadable) → P (λ u. ofThree c u z)
+  unfolding ofThree
+  three-cases s g a r n =
+      go (eqb c (code "S") && isWord z) (eqb c (code "G") && isNumber z) (eqb c (code "A") && isNumber z) (eqb c (code "R") && isNumber z)
+    where
+      go : (x y v w : Bool)
+          → P (λ u. cond x (sends u z) (cond y (groups u (value z)) (cond v (arrives u (value z)) (cond w (requests u (value z)) unreadable))))
+      go true y v w = s
+      go false true v w = g
+      go false false true w = a
+      go false false false true = r
+      go false false false false = n
 
-    go : (s g a r : Bool) → shown (of (held u) s g a r) ≡ shown (of u s g a r)
-    go true g a r = ap (λ (x : ℕ). Send x (length z)) (held-held u)
-    go false true a r = ap (λ (x : ℕ). Group x (held (value z))) (held-held u)
-    go false false true r = ap (λ (x : ℕ). Arrive x (held (value z))) (held-held u)
-    go false false false true = ap (λ (x : ℕ). Request x (held (value z))) (held-held u)
-    go false false false false = refl
+pub shown-three : (c u : ℕ) (z : List ℕ) → shown (ofThree c (held u) z) ≡ shown (ofThree c u z)
+unfolding shown
+shown-three c u z =
+    three-cases c z (λ f. shown (f (held u)) ≡ shown (f u)) (ap (λ (x : ℕ). Send x (length z)) (held-held u))
+    (ap (λ (x : ℕ). Group x (held (value z))) (held-held u))
+    (ap (λ (x : ℕ). Arrive x (held (value z))) (held-held u))
+    (ap (λ (x : ℕ). Request x (held (value z))) (held-held u))
+    refl
 
 module _ (c u : ℕ) (z : List ℕ) (fits : u ≤ last) where
   pub shown-send : c ≡ code "S" → isWord z ≡ true → Send u (length z) ≡ shown (ofThree c u z)

@@ -4,7 +4,7 @@ use mathlib.Core.List.{List, [], _∷_}
 use Prim.Native.Nat.{ℕ, _-_, min}
 use Prim.Native.Char.{code}
 use lib.Dec.{eqb}
-use lib.ListN.{length}
+use lib.ListN.{length, drop}
 use Rattle.rules.specs.Maps.{all}
 use Rattle.rules.specs.Message.{last}
 use Rattle.script.specs.Items.{isDigit, isNumber, valueFrom, value, Command, groups, sends, arrives, requests, takes, unreadable}
@@ -39,6 +39,15 @@ shown (arrives u f) = Arrive (held u) (held f)
 shown (requests u k) = Request (held u) (held k)
 shown (takes u) = Take (held u)
 shown unreadable = Unreadable
+
+-- the command that such a line is, where l are its bytes: the word is the last `len` of them
+abbrev pub said : Line → List ℕ → Command
+said (Group n w) l = groups n w
+said (Send u len) l = sends u (drop (length l - len) l)
+said (Arrive u f) l = arrives u f
+said (Request u k) l = requests u k
+said (Take u) l = takes u
+said Unreadable l = unreadable
 
 -- letter c and two numbers
 unfoldable pub numbered : ℕ → ℕ → ℕ → Line

@@ -1,7 +1,6 @@
 -- Whole scripts and what they print: one table, each row worked out by hand from 01, proved by computation.
 use mathlib.Core.Path.{_≡_, refl}
 use mathlib.Core.List.{List, [], _∷_, _++_, map}
-use Prim.Native.Nat.{ℕ}
 use Prim.Native.String.{String}
 use lib.ListN.{replicate}
 use Rattle.rules.specs.Maps.{between, upd, column, units}

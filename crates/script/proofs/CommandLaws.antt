@@ -1,9 +1,8 @@
 -- Laws of commands: a line's items one after the other, and the commands that they are.
 use mathlib.Core.Bool.{Bool, true, false, cond, not, _&&_, _||_, and-false, true≢false}
-use mathlib.Core.List.{List, [], _∷_, _++_}
+use mathlib.Core.List.{List, [], _∷_}
 use mathlib.Core.Path.{_≡_, refl, sym, ap, _∙_}
-use Prim.Native.Nat.{ℕ, zero, suc, _+_, _-_, _<_, _≤_}
-use Prim.Native.Char.{code}
+use Prim.Native.Nat.{ℕ, suc, _+_, _-_, _<_, _≤_}
 use native.Mathlib.Numerals.{add-one}
 use native.Mathlib.Omega.{arith}
 use lib.Dec.{eqb, leb, ltb}
@@ -13,8 +12,8 @@ use borrow.Author.Tests.{lt-leb, le-leb}
 use Rattle.rules.specs.Maps.{between, all}
 use Rattle.rules.proofs.MapsLaws.{Lt?, lt, ge, lt?, Eq?, same, other, eq?, and-left, and-right, not-true}
 use Rattle.script.proofs.LinesLaws.{length-before}
-use Rattle.script.specs.Lines.{onto, parted, before}
-use Rattle.script.specs.Items.{space, items, isDigit, isNumber, value, isPrintable, isWord, Command, unreadable, letter, ofTwo, ofThree, ofItems, command}
+use Rattle.script.specs.Lines.{onto, before}
+use Rattle.script.specs.Items.{space, items, isDigit, isNumber, value, isPrintable, isWord, unreadable, letter, ofTwo, ofThree, ofItems, command}
 
 -- ---- items
 

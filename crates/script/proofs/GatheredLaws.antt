@@ -1,12 +1,12 @@
 -- Laws of the line that the code is gathering: it is the line that the reader keeps.
 use mathlib.Core.Bool.{Bool, true, false, cond}
-use mathlib.Core.List.{List, [], _∷_, _++_}
+use mathlib.Core.List.{List, [], _∷_}
 use mathlib.Core.Path.{_≡_, refl, sym, ap, _∙_}
-use Prim.Native.Nat.{ℕ, zero, suc, _+_, _<_, _≤_, min}
+use Prim.Native.Nat.{ℕ, zero, suc, _+_, _<_, _≤_}
 use native.Mathlib.Numerals.{add-one}
 use native.Mathlib.Omega.{arith}
 use lib.Dec.{ltb}
-use lib.ListN.{length, getD, take, drop, set, length-take, length-set, drop-of-length-le}
+use lib.ListN.{length, getD, take, drop, length-take, length-set, drop-of-length-le}
 use lib.Seq.{take-suc-set, length-take-le, drop-cons}
 use borrow.Author.Tests.{lt-ltb, le-ltb}
 use Rattle.rules.proofs.MapsLaws.{Lt?, lt, ge, lt?}
@@ -15,7 +15,6 @@ use Rattle.script.specs.Reader.{Begun, longer, longerBy, commandIn}
 use Rattle.script.specs.Shown.{shown}
 use Rattle.script.specs.Gathered.{begunOf, storing, overrun, pushed, extended, Pushed, Extended}
 use Rattle.script.specs.declared.collector.Collector.{Collector}
-use Rattle.script.specs.declared.line.Line.{Line}
 use Rattle.script.specs.declared.line.Line.the-variants.{Unreadable}
 
 -- ---- one byte more

@@ -1,20 +1,20 @@
 -- A number that is too large for 32 bits does on the desk what it does as 32 bits hold it: nothing has that number.
-use mathlib.Core.Bool.{Bool, true, false, cond, _&&_, and-false}
-use mathlib.Core.List.{List, [], _∷_, _++_}
+use mathlib.Core.Bool.{Bool, true, false, and-false}
+use mathlib.Core.List.{List}
 use mathlib.Core.Path.{_≡_, refl, sym, ap, subst, _∙_}
-use Prim.Native.Nat.{ℕ, _+_, _-_, _<_, _≤_, min}
+use Prim.Native.Nat.{ℕ, _<_, _≤_}
 use native.Mathlib.Omega.{arith}
-use lib.ListN.{length, drop}
-use Rattle.rules.specs.Maps.{between, at}
+use lib.ListN.{length}
+use Rattle.rules.specs.Maps.{at}
 use Rattle.rules.specs.Message.{last}
 use Rattle.rules.specs.State.{State}
 use Rattle.rules.specs.Calls.{Result, refusal, makeRequest, makeChecks}
 use Rattle.rules.specs.Sound.{sound}
 use Rattle.rules.proofs.MapsLaws.{Lt?, lt, ge, lt?}
 use Rattle.rules.proofs.SoundLaws.{sound-facts}
-use Rattle.script.specs.Items.{Command, groups, sends, arrives, requests, takes, unreadable, command}
-use Rattle.script.specs.Desk.{Desk, Acted, answers, hasUnit, hasFrame, refused, called, wrote, lent, act}
-use Rattle.script.specs.Shown.{held, shown, said}
+use Rattle.script.specs.Items.{Command, groups, sends, arrives, requests, takes, unreadable}
+use Rattle.script.specs.Desk.{Desk, answers, hasUnit, hasFrame, refused, called, wrote, lent, act}
+use Rattle.script.specs.Shown.{held}
 use Rattle.script.proofs.ItemsLaws.{above-between}
 
 -- the command, with its numbers as 32 bits hold them

@@ -1,8 +1,8 @@
 -- Laws of numbers and words: how they are read byte by byte, and the numbers that 32 bits hold.
-use mathlib.Core.Bool.{Bool, true, false, cond, not, _&&_, _||_, and-true, and-false, or-true}
+use mathlib.Core.Bool.{Bool, true, false, cond, _&&_, and-true, and-false, or-true}
 use mathlib.Core.List.{List, [], _∷_}
 use mathlib.Core.Path.{_≡_, refl, sym, ap, _∙_}
-use Prim.Native.Nat.{ℕ, suc, _+_, _-_, _*_, _<_, _≤_, min}
+use Prim.Native.Nat.{ℕ, suc, _+_, _-_, _*_, _<_, _≤_}
 use native.Mathlib.Numerals.{add-one}
 use native.Mathlib.Omega.{arith}
 use lib.Dec.{eqb, leb, ltb}
@@ -11,10 +11,9 @@ use lib.Seq.{drop-cons}
 use borrow.Author.Tests.{lt-leb, lt-ltb, ne-eqb}
 use Rattle.rules.specs.Maps.{between, all}
 use Rattle.rules.specs.Message.{last}
-use Rattle.rules.proofs.MapsLaws.{Lt?, lt, ge, lt?, between-high, is-between}
-use Rattle.script.specs.Items.{isDigit, isNumber, valueFrom, value, isPrintable, isWord}
+use Rattle.rules.proofs.MapsLaws.{Lt?, lt, ge, lt?, between-high}
+use Rattle.script.specs.Items.{isDigit, isNumber, valueFrom, isPrintable, isWord}
 use Rattle.script.specs.Shown.{held, digitOf, digitsFrom, valueIn}
-use Rattle.script.specs.declared.item.Value.{Value}
 use Rattle.script.specs.declared.item.Value.the-variants.{Is, None}
 
 -- ---- ranges

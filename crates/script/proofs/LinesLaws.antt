@@ -1,7 +1,7 @@
 -- Laws of the lines of a text: the same lines, found byte by byte.
 use mathlib.Core.Bool.{Bool, true, false, cond}
-use mathlib.Core.List.{List, [], _∷_, _++_, append-nil, append-assoc}
-use mathlib.Core.Path.{_≡_, refl, sym, ap, _∙_}
+use mathlib.Core.List.{List, [], _∷_, _++_, append-nil}
+use mathlib.Core.Path.{_≡_, refl, ap, _∙_}
 use Prim.Native.Nat.{ℕ, suc, _+_, _<_, _≤_}
 use native.Mathlib.Numerals.{add-one}
 use native.Mathlib.Omega.{arith}
@@ -10,7 +10,7 @@ use lib.ListN.{length, getD, drop, length-append, drop-of-length-le}
 use lib.Seq.{append-snoc, drop-cons}
 use borrow.Author.Tests.{lt-ltb, eq-eqb, ne-eqb}
 use Rattle.rules.proofs.MapsLaws.{Eq?, same, other, eq?}
-use Rattle.script.specs.Lines.{onto, parted, lineFeed, lines, before, Found}
+use Rattle.script.specs.Lines.{onto, lineFeed, lines, before, Found}
 
 -- the lines of p and then l, where p is the line that is not ended yet
 abbrev pub linesFrom : List ℕ → List ℕ → List (List ℕ)

@@ -1,15 +1,14 @@
 -- A part of the input, read up to its first line feed: no line ends in it, or one does and the rest follows.
-use mathlib.Core.Bool.{Bool, true, false, cond}
+use mathlib.Core.Bool.{Bool, cond}
 use mathlib.Core.List.{List, [], _∷_, _++_}
-use mathlib.Core.Path.{_≡_, refl, sym, ap, _∙_}
+use mathlib.Core.Path.{_≡_, refl}
 use Prim.Native.Nat.{ℕ, suc, _+_, _<_}
 use native.Mathlib.Numerals.{add-one}
 use native.Mathlib.Omega.{arith}
-use lib.Dec.{eqb}
 use lib.ListN.{length, take, drop}
 use Rattle.rules.proofs.MapsLaws.{Eq?, same, other, eq?}
 use Rattle.script.specs.Lines.{lineFeed, before}
-use Rattle.script.specs.Reader.{Begun, longer, longerBy, Stage, Reader, Read, readLine, readByte, readPart}
+use Rattle.script.specs.Reader.{longerBy, Reader, Read, readLine, readByte, readPart}
 
 -- the reader, with these bytes more of its line
 abbrev pub withBytes : Reader → List ℕ → Reader

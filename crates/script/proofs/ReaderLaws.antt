@@ -3,15 +3,15 @@ use mathlib.Core.Bool.{Bool, true, false, cond}
 use mathlib.Core.List.{List, [], _∷_, _++_, append-nil, append-assoc, flatten}
 use mathlib.Core.Option.{Option, none, some}
 use mathlib.Core.Path.{_≡_, refl, sym, ap, _∙_}
-use Prim.Native.Nat.{ℕ, zero, suc, _+_, _<_, _≤_, min}
+use Prim.Native.Nat.{ℕ, zero, suc, _+_, _<_, _≤_}
 use native.Mathlib.Omega.{arith}
-use lib.Dec.{eqb, ltb, leb}
+use lib.Dec.{eqb, ltb}
 use lib.ListN.{length, take, length-append, length-take}
 use lib.Seq.{take-all, take-append-le}
 use borrow.Author.Tests.{lt-ltb, le-ltb, lt-leb}
 use Rattle.rules.proofs.MapsLaws.{Lt?, lt, ge, lt?, Eq?, same, other, eq?}
 use Rattle.script.specs.Lines.{lineFeed, lines}
-use Rattle.script.specs.Items.{Command, unreadable, items, ofItems, command}
+use Rattle.script.specs.Items.{Command, unreadable, command}
 use Rattle.script.specs.Desk.{Desk, openedDesk, act}
 use Rattle.script.specs.Print.{groupLine, noGroupLine, replyLine}
 use Rattle.script.specs.Script.{Group, groupOf, printedFrom, printedAfter, printedLines, printed}

@@ -3,7 +3,7 @@ use mathlib.Core.Bool.{Bool, true, false, cond, and-false}
 use mathlib.Core.List.{List, [], _∷_, _++_, append-assoc}
 use mathlib.Core.Option.{Option, none, some}
 use mathlib.Core.Path.{_≡_, refl, sym, ap, _∙_}
-use Prim.Native.Nat.{ℕ, suc, _+_, _-_, _<_, _≤_, min}
+use Prim.Native.Nat.{ℕ, _-_, _<_}
 use native.Mathlib.Omega.{arith}
 use Prim.Native.Char.{code}
 use lib.Dec.{eqb, leb}
@@ -11,7 +11,7 @@ use lib.ListN.{length, drop, length-append}
 use lib.Seq.{drop-at}
 use Rattle.rules.specs.Message.{last}
 use Rattle.rules.specs.Sound.{rangesFit}
-use Rattle.rules.proofs.MapsLaws.{Lt?, lt, ge, lt?, Eq?, same, other, eq?}
+use Rattle.rules.proofs.MapsLaws.{Eq?, same, other, eq?}
 use Rattle.script.specs.Lines.{onto}
 use Rattle.script.specs.Items.{space, items, isNumber, value, Command, groups, sends, arrives, requests, takes, unreadable, letter, ofTwo, ofThree, ofItems, command}
 use Rattle.script.specs.Desk.{Desk, act}

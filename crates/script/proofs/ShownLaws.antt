@@ -2,7 +2,7 @@
 use mathlib.Core.Bool.{Bool, true, false, cond, _&&_, and-true, and-false}
 use mathlib.Core.List.{List, [], _∷_}
 use mathlib.Core.Path.{_≡_, refl, sym, ap, _∙_}
-use Prim.Native.Nat.{ℕ, _+_, _-_, _≤_, _<_, min}
+use Prim.Native.Nat.{ℕ, _+_, _-_, _≤_, _<_}
 use Prim.Native.Char.{code}
 use native.Mathlib.Omega.{arith}
 use lib.Dec.{eqb}
@@ -16,9 +16,7 @@ use Rattle.script.specs.Items.{space, items, isNumber, value, isWord, Co
 use Rattle.script.specs.Shown.{held, valueIn, shown, numbered}
 use Rattle.script.proofs.LinesLaws.{length-before}
 use Rattle.script.proofs.CommandLaws.{items-one, items-more, take-rest, ofItems-number, ofItems-rest}
-use Rattle.script.specs.declared.item.Value.{Value}
 use Rattle.script.specs.declared.item.Value.the-variants.{Is, None}
-use Rattle.script.specs.declared.line.Line.{Line}
 use Rattle.script.specs.declared.line.Line.the-variants.{Group, Send, Arrive, Request, Take, Unreadable}
 
 -- ---- numbers

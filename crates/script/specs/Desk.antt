@@ -1,5 +1,5 @@
 -- The group on the bench: its units, the frames written so far, and what a command does with them.
-use mathlib.Core.Bool.{Bool, true, false, cond, _&&_}
+use mathlib.Core.Bool.{Bool, cond, _&&_}
 use mathlib.Core.List.{List, [], _∷_, _++_}
 use Prim.Native.Nat.{ℕ, _-_}
 use lib.Dec.{eqb}

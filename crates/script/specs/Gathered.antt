@@ -1,15 +1,16 @@
 -- How the code holds the line that is not ended yet.
-use mathlib.Core.Bool.{Bool, true, false, cond}
+use mathlib.Core.Bool.{true, false, cond}
 use mathlib.Core.List.{List, [], _∷_}
 use mathlib.Core.Path.{_≡_}
 use Prim.Native.Nat.{ℕ, _+_}
 use lib.Dec.{ltb}
 use lib.ListN.{take, set, replicate}
+use Rattle.script.specs.Lines.{longest}
 use Rattle.script.specs.Reader.{Begun, longer, longerBy}
 use Rattle.script.specs.declared.collector.Collector.{Collector}
 
 unfoldable pub emptied : Collector
-emptied = record { bytes = replicate 80 0; len = 0; long = false }
+emptied = record { bytes = replicate longest 0; len = 0; long = false }
 
 -- the line that it holds
 abbrev pub begunOf : Collector → Begun
@@ -23,7 +24,7 @@ abbrev pub overrun : Collector → Collector
 overrun c = record { bytes = c .bytes; len = c .len; long = true }
 
 unfoldable pub pushed : Collector → ℕ → Collector
-pushed c b = cond (ltb (c .len) 80) (storing c b) (overrun c)
+pushed c b = cond (ltb (c .len) longest) (storing c b) (overrun c)
 
 abbrev pub extended : Collector → List ℕ → Collector
 extended c [] = c

@@ -1,12 +1,12 @@
 -- A line of a script, read: its items, and the command that they are.
-use mathlib.Core.Bool.{Bool, true, false, cond, not, _&&_, _||_}
+use mathlib.Core.Bool.{Bool, cond, not, _&&_, _||_}
 use mathlib.Core.List.{List, [], _∷_}
 use Prim.Native.Nat.{ℕ, _+_, _-_, _*_}
 use Prim.Native.Char.{code}
 use lib.Dec.{eqb, leb, ltb}
 use lib.ListN.{length, getD}
 use Rattle.rules.specs.Maps.{between, all}
-use Rattle.script.specs.Lines.{parted}
+use Rattle.script.specs.Lines.{parted, longest}
 
 abbrev pub space : ℕ
 space = 32
@@ -75,6 +75,6 @@ ofItems (x ∷ y ∷ []) = cond (isNumber y) (ofTwo (letter x) (value y)) unread
 ofItems (x ∷ y ∷ z ∷ []) = cond (isNumber y) (ofThree (letter x) (value y) z) unreadable
 ofItems (x ∷ y ∷ z ∷ t ∷ l) = unreadable
 
--- Lines are at most 80 bytes; any other line is unreadable.
+-- a line of at most 80 bytes; any other line is unreadable
 unfoldable pub command : List ℕ → Command
-command l = cond (leb (length l) 80) (ofItems (items l)) unreadable
+command l = cond (leb (length l) longest) (ofItems (items l)) unreadable

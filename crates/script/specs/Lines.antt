@@ -1,5 +1,5 @@
 -- Bytes in lines.
-use mathlib.Core.Bool.{Bool, true, false, cond}
+use mathlib.Core.Bool.{cond}
 use mathlib.Core.List.{List, [], _∷_}
 use mathlib.Core.Path.{_≡_}
 use Prim.Native.Nat.{ℕ, _≤_}
@@ -22,6 +22,10 @@ lineFeed = 10
 -- A line feed ends a line. After a final one nothing follows; a last line without one counts.
 abbrev pub lines : List ℕ → List (List ℕ)
 lines l = parted lineFeed [] l
+
+-- lines are at most this many bytes, their line feed not counted
+abbrev pub longest : ℕ
+longest = 80
 
 -- the bytes before the first c
 abbrev pub before : ℕ → List ℕ → List ℕ

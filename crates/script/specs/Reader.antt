@@ -5,7 +5,7 @@ use mathlib.Core.Option.{Option, none, some}
 use Prim.Native.Nat.{ℕ, suc}
 use lib.Dec.{eqb, ltb}
 use lib.ListN.{length}
-use Rattle.script.specs.Lines.{lineFeed}
+use Rattle.script.specs.Lines.{lineFeed, longest}
 use Rattle.script.specs.Items.{Command, unreadable, command}
 use Rattle.script.specs.Desk.{Desk, openedDesk, Acted, act}
 use Rattle.script.specs.Print.{groupLine, noGroupLine, replyLine}
@@ -23,7 +23,7 @@ empty = record { bytes = []; long = false }
 
 unfoldable pub longer : Begun → ℕ → Begun
 longer l b =
-    cond (ltb (length (l .bytes)) 80)
+    cond (ltb (length (l .bytes)) longest)
     (record { bytes = l .bytes ++ (b ∷ []); long = l .long })
     (record { bytes = l .bytes; long = true })
 

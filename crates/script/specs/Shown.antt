@@ -1,6 +1,6 @@
 -- What the code shows of an item and of a line: numbers of 32 bits, and a word by its length.
-use mathlib.Core.Bool.{Bool, true, false, cond}
-use mathlib.Core.List.{List, [], _∷_}
+use mathlib.Core.Bool.{cond}
+use mathlib.Core.List.{List}
 use Prim.Native.Nat.{ℕ, _-_, min}
 use Prim.Native.Char.{code}
 use lib.Dec.{eqb}

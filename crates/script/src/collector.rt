@@ -10,7 +10,7 @@ ghost use Rattle.script.specs.Gathered.{emptied, Pushed, Extended, begun
 
 // The first 80 bytes of the line, and whether there were more.
 pub struct Collector {
-    pub bytes: [u8; 80],
+    pub bytes: [u8; line::LONGEST],
     pub len: usize,
     pub long: bool,
 }
@@ -20,7 +20,7 @@ impl Collector {
         ensures { λ r. ⌜ r ≡ emptied ⌝ }
     {
         Self {
-            bytes: [0; 80],
+            bytes: [0; line::LONGEST],
             len: 0,
             long: false,
         }
@@ -30,7 +30,7 @@ impl Collector {
         ensures { λ r. ⌜ Pushed self b r ⌝ }
     {
         let n = self.len;
-        if n < 80 {
+        if n < line::LONGEST {
             self.bytes[n] = b;
             self.len = n + 1;
             return self;
@@ -57,10 +57,10 @@ impl Collector {
         ensures { λ r. ⌜ (r ≡ length (begunOf self .bytes)) × (r ≤ 80) ⌝ }
     {
         let n = self.len;
-        if n < 80 {
+        if n < line::LONGEST {
             return n;
         }
-        80
+        line::LONGEST
     }
 
     pub fn read(self) -> Line

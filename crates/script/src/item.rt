@@ -1,6 +1,6 @@
 // The items of a line: numbers and words.
 ghost use mathlib.Core.Path.{_≡_};
-ghost use Prim.Native.Nat.{_+_, _*_, _<_, min};
+ghost use Prim.Native.Nat.{_+_, _*_, _<_};
 ghost use Rattle.script.specs.Items.{isPrintable, isWord};
 ghost use Rattle.script.specs.Shown.{digitOf, held, digitsFrom, valueIn};
 
@@ -14,13 +14,13 @@ pub enum Value {
 fn digit(b: u8) -> u32
     ensures { λ r. ⌜ r ≡ digitOf b ⌝ }
 {
-    if b < 48 {
+    if b < b'0' {
         return 10;
     }
-    if 57 < b {
+    if b'9' < b {
         return 10;
     }
-    b as u32 - 48
+    (b - b'0') as u32
 }
 
 // v with a further digit.
@@ -41,7 +41,7 @@ pub fn number(s: &[u8]) -> Value
     if s.len() == 0 {
         return Value::None;
     }
-    if s[0] == 48 {
+    if s[0] == b'0' {
         if s.len() == 1 {
             return Value::Is(0);
         }
@@ -70,10 +70,10 @@ fn digits(s: &[u8]) -> Value
 fn is_printable(b: u8) -> bool
     ensures { λ r. ⌜ r ≡ isPrintable b ⌝ }
 {
-    if b < 33 {
+    if b < b'!' {
         return false;
     }
-    b <= 126
+    b <= b'~'
 }
 
 pub fn is_word(s: &[u8]) -> bool

@@ -1,6 +1,6 @@
 // The bench's language: reading the lines of a script, and writing what they print.
 pub mod bytes;
 pub mod collector;
-pub mod item;
+mod item;
 pub mod line;
 pub mod print;

@@ -8,6 +8,9 @@ ghost use Rattle.script.specs.Items.{items, ofItems, ofTwo, ofThree, com
 ghost use Rattle.script.specs.Script.{inRange};
 ghost use Rattle.script.specs.Shown.{shown, numbered as Shown·numbered, groupIn};
 
+// The most bytes of a line, without its line feed.
+pub const LONGEST: usize = 80;
+
 // A number that passes 32 bits counts as 4,294,967,295, which is no unit and no frame.
 pub enum Line {
     Group { n: u32, w: u32 },
@@ -28,7 +31,7 @@ pub enum Group {
 pub fn read(s: &[u8]) -> Line
     ensures { λ r. ⌜ r ≡ shown (command (now (s .entry))) ⌝ }
 {
-    if 80 < s.len() {
+    if LONGEST < s.len() {
         return Line::Unreadable;
     }
     let e = bytes::find(s, b' ');

@@ -14,12 +14,12 @@ returns-2 : tie.Need-returns-2
 unfolding digitOf
 returns-2 c = rw (above-between 48 57 (c .before .before .args .b) (c .if2 .taken))
 
-sub-result : tie.Need-sub-result
-sub-result c = search needs
+cast-result : tie.Need-cast-result
+cast-result c = search needs
 
 returns-3 : tie.Need-returns-3
 unfolding digitOf
 returns-3 c = rw (is-between 48 57 (c .before .before .args .b) (c .before .if1 .left) (c .if2 .left))
 
 pub digit-spec : {M : Type 1} → statement M
-digit-spec = tie.close (tie.spec returns returns-2 sub-result returns-3)
+digit-spec = tie.close (tie.spec returns returns-2 cast-result returns-3)

@@ -1,8 +1,5 @@
 -- `print::places` meets its contract. The loop's invariant: the digits that are counted and those that are left are all.
 use native.Mathlib.Omega.{arith}
-use mathlib.Core.Path.{_≡_}
-use lib.ListN.{length}
-use Rattle.script.specs.Print.{decimal}
 use Rattle.script.proofs.WrittenLaws.{Measured, measured-start, measured-more, measured-end}
 use Rattle.script.proofs.print.places.Statement.{statement}
 use Rattle.script.proofs.print.places.Tie as tie

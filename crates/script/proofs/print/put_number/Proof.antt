@@ -1,10 +1,7 @@
 -- `print::put_number` meets its contract. The loop's invariant: what is spelt, with the digits of what is left, is the whole number.
 use native.Mathlib.Omega.{arith}
 use borrow.Author.Needs.{needs}
-use mathlib.Core.Path.{_≡_, ap}
-use lib.ListN.{length, length-set}
-use Prim.Native.Nat.{_+_}
-use Rattle.script.specs.Print.{decimal}
+use lib.ListN.{length-set}
 use Rattle.script.proofs.WrittenLaws.{Spelling, spelling-start, spelling-place, spelling-more, spelling-end, spelt-put}
 use Rattle.script.proofs.print.put_number.Statement.{statement}
 use Rattle.script.proofs.print.put_number.Tie as tie

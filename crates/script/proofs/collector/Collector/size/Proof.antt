@@ -1,7 +1,7 @@
 -- `Collector::size` meets its contract: fewer bytes than 80, and all of them.
 use native.Mathlib.Omega.{arith}
 use borrow.Author.Needs.{needs}
-use mathlib.Core.Path.{_≡_, sym, _∙_}
+use mathlib.Core.Path.{_≡_}
 use lib.ListN.{length, length-take}
 use Rattle.script.proofs.collector.Collector.size.Statement.{statement}
 use Rattle.script.proofs.collector.Collector.size.Tie as tie

@@ -1,10 +1,10 @@
 -- Laws of decimal numbers: a digit alone, and what stands before the last digit.
-use mathlib.Core.Bool.{Bool, true, false, cond, or-true}
+use mathlib.Core.Bool.{Bool, true, cond, or-true}
 use mathlib.Core.List.{List, [], _∷_, _++_}
 use mathlib.Core.Path.{_≡_, refl, ap, _∙_}
-use Prim.Native.Nat.{ℕ, zero, suc, _+_, _-_, _*_, _/_, _%_, _<_, _≤_}
+use Prim.Native.Nat.{ℕ, zero, suc, _+_, _-_, _*_, _/_, _%_, _^_, _<_, _≤_}
 use native.Mathlib.Omega.{arith}
-use lib.Dec.{eqb, ltb}
+use lib.Dec.{eqb}
 use lib.ListN.{length, getD, length-append, List·getD-append}
 use borrow.Author.Tests.{lt-ltb, le-ltb, ne-eqb}
 use Rattle.rules.specs.Maps.{all}
@@ -32,17 +32,19 @@ unfolding decimal
 decimal-more x h =
     rw (le-ltb x 10 h) (ap (λ (l : List ℕ). l ++ ((48 + x % 10) ∷ [])) (digits-enough x (suc (x / 10)) (x / 10) (omega arith) (omega arith)))
 
-length-digits : (m x : ℕ) → length (digits m x) ≤ m
-length-digits zero x = omega arith
-length-digits (suc m) x = go (ltb x 10) (length-digits m (x / 10))
-  where
-    go : (t : Bool) → length (digits m (x / 10)) ≤ m → length (cond t ((48 + x) ∷ []) (digits m (x / 10) ++ ((48 + x % 10) ∷ []))) ≤ suc m
-    go true h = omega arith
-    go false h = omega (arith, length-append (digits m (x / 10)) ((48 + x % 10) ∷ []))
+pub length-one : (x : ℕ) → x < 10 → length (decimal x) ≡ 1
+length-one x h = ap length (decimal-one x h)
 
-pub length-decimal : (x : ℕ) → length (decimal x) ≤ suc x
-unfolding decimal
-length-decimal x = length-digits (suc x) x
+pub length-more : (x : ℕ) → 10 ≤ x → length (decimal x) ≡ length (decimal (x / 10)) + 1
+length-more x h = ap length (decimal-more x h) ∙ length-append (decimal (x / 10)) ((48 + x % 10) ∷ [])
+
+pub length-decimal : (k x : ℕ) → x < 10 ^ suc k → length (decimal x) ≤ suc k
+length-decimal zero x h = omega (arith, length-one x h)
+length-decimal (suc k) x h = go (lt? x 10) (length-decimal k (x / 10))
+  where
+    go : {t : Bool} → Lt? x 10 t → (x / 10 < 10 ^ suc k → length (decimal (x / 10)) ≤ suc k) → length (decimal x) ≤ suc (suc k)
+    go (lt a) ih = omega (arith, length-one x a)
+    go (ge a) ih = omega (arith, length-more x a, ih (omega arith))
 
 -- ---- what is printed of x is a number of the language, and says x
 

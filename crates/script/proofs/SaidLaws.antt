@@ -13,7 +13,7 @@ use Rattle.rules.specs.Message.{last}
 use Rattle.rules.specs.Sound.{rangesFit}
 use Rattle.rules.proofs.MapsLaws.{Eq?, same, other, eq?}
 use Rattle.script.specs.Lines.{onto}
-use Rattle.script.specs.Items.{space, items, isNumber, value, Command, groups, sends, arrives, requests, takes, unreadable, letter, ofTwo, ofThree, ofItems, command}
+use Rattle.script.specs.Items.{space, items, glued, isNumber, value, Command, groups, sends, arrives, requests, takes, unreadable, letter, ofTwo, ofThree, ofItems, command}
 use Rattle.script.specs.Desk.{Desk, act}
 use Rattle.script.specs.Script.{Group as Named, inRange, groupOf}
 use Rattle.script.specs.Reader.{Begun, commandIn}
@@ -26,11 +26,6 @@ use Rattle.script.proofs.ShownLaws.{three-cases}
 use Rattle.script.proofs.HeldLaws.{heldIn, held-cases, act-held}
 
 -- ---- a line is its items with a space between any two
-
-abbrev glued : List (List ℕ) → List ℕ
-glued [] = []
-glued (x ∷ []) = x
-glued (x ∷ y ∷ l) = x ++ (space ∷ glued (y ∷ l))
 
 glued-onto : (b : ℕ) (l : List (List ℕ)) → glued (onto b l) ≡ b ∷ glued l
 glued-onto b [] = refl

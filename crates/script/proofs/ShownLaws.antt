@@ -13,7 +13,7 @@ use Rattle.rules.specs.Message.{last}
 use Rattle.rules.proofs.MapsLaws.{Lt?, lt, ge, lt?}
 use Rattle.script.specs.Lines.{before, Found}
 use Rattle.script.specs.Items.{space, items, isNumber, value, isWord, Command, groups, sends, arrives, requests, takes, unreadable, ofTwo, ofThree, ofItems}
-use Rattle.script.specs.Shown.{held, valueIn, shown, numbered}
+use Rattle.script.specs.Shown.{held, valueIn, shown, ofNumbers}
 use Rattle.script.proofs.LinesLaws.{length-before}
 use Rattle.script.proofs.CommandLaws.{items-one, items-more, take-rest, ofItems-number, ofItems-rest}
 use Rattle.script.specs.declared.item.Value.the-variants.{Is, None}
@@ -98,8 +98,8 @@ module _ (c u : ℕ) (z : List ℕ) (fits : u ≤ last) where
   unfolding shown ofThree
   shown-no-number e n = rw (ne-eqb c (code "S") e) (simp (n, and-false))
 
-  pub shown-numbered : (x : ℕ) → (c ≡ code "S" → ⊥) → Number z x → numbered c u x ≡ shown (ofThree c u z)
-  unfolding shown ofThree numbered
+  pub shown-numbered : (x : ℕ) → (c ≡ code "S" → ⊥) → Number z x → ofNumbers c u x ≡ shown (ofThree c u z)
+  unfolding shown ofThree ofNumbers
   shown-numbered x e n =
       rw (ne-eqb c (code "S") e, n .is, n .value-is) (simp and-true (go (eqb c (code "G")) (eqb c (code "A")) (eqb c (code "R"))))
     where

@@ -1,20 +1,21 @@
 -- Laws of writing to lent output: by single bytes, by texts one after the other, and whole.
-use mathlib.Core.List.{List, [], _∷_, _++_}
+use mathlib.Core.List.{List, [], _∷_, _++_, append-assoc}
 use mathlib.Core.Path.{_≡_, refl, sym, ap, _∙_}
 use Prim.Native.Nat.{ℕ, suc, _+_, _-_, _/_, _%_, _<_, _≤_}
 use native.Mathlib.Nat.{add-zero, zero-add}
 use native.Mathlib.Numerals.{add-one}
 use native.Mathlib.Omega.{arith}
-use lib.ListN.{length, getD, drop, set, length-append, length-set, drop-of-length-le}
-use lib.Seq.{sets, length-sets, sets-eq, set-comm, drop-cons, append-snoc}
+use lib.ListN.{length, getD, take, drop, set, length-append, length-set, drop-of-length-le}
+use lib.Seq.{sets, length-sets, sets-eq, set-comm, drop-cons, append-snoc, take-append-seam}
 use borrow.Author.Tests.{le-leb, lt-leb}
+use Rattle.rules.specs.Message.{last}
 use Rattle.rules.specs.Calls.{written}
 use Rattle.script.specs.Lines.{lineFeed}
-use Rattle.script.specs.Items.{space}
+use Rattle.script.specs.Items.{space, glued}
 use Rattle.script.specs.Desk.{took}
 use Rattle.script.specs.Print.{decimal, joined, replyItems}
 use Rattle.script.specs.Written.{Put, Wrote}
-use Rattle.script.proofs.PrintLaws.{decimal-one, decimal-more, length-decimal}
+use Rattle.script.proofs.PrintLaws.{decimal-one, decimal-more, length-one, length-more, length-decimal}
 
 -- ---- runs of stores
 
@@ -43,12 +44,15 @@ put-then {out} {mid} {after} {a} {b} {at} {next} {end} p q = record {
 }
 
 -- an item, a space, and the rest of the line
+joined-item : (x y : List ℕ) (l : List (List ℕ)) → joined (x ∷ y ∷ l) ≡ x ++ (space ∷ joined (y ∷ l))
+joined-item x y l = append-assoc x (space ∷ glued (y ∷ l)) (lineFeed ∷ [])
+
 pub put-item : (x y : List ℕ) (l : List (List ℕ)) {out mid after : List ℕ} {at next end : ℕ}
     → Put out at (x ++ (space ∷ [])) next mid → Put mid next (joined (y ∷ l)) end after → Put out at (joined (x ∷ y ∷ l)) end after
-put-item x y l p q = rw (← append-snoc x space (joined (y ∷ l))) (put-then p q)
+put-item x y l p q = rw (joined-item x y l, ← append-snoc x space (joined (y ∷ l))) (put-then p q)
 
 pub length-joined : (x y : List ℕ) (l : List (List ℕ)) → length (joined (x ∷ y ∷ l)) ≡ length x + 1 + length (joined (y ∷ l))
-length-joined x y l = length-append x (space ∷ joined (y ∷ l)) ∙ omega arith
+length-joined x y l = ap length (joined-item x y l) ∙ length-append x (space ∷ joined (y ∷ l)) ∙ omega arith
 
 pub length-joined-last : (x : List ℕ) → length (joined (x ∷ [])) ≡ length x + 1
 length-joined-last x = length-append x (lineFeed ∷ [])
@@ -75,6 +79,11 @@ put-wrote out text h p =
 
 pub short-wrote : (out text : List ℕ) → length out < length text → Wrote out text 0 out
 short-wrote out text h = record { count = rw (lt-leb (length text) (length out) h); bytes = rw (lt-leb (length text) (length out) h) }
+
+-- where there was room, the bytes written are the text
+pub wrote-text : {out text after : List ℕ} {r : ℕ} → length text ≤ length out → Wrote out text r after → take r after ≡ text
+wrote-text {out} {text} h w =
+    rw (w .count, w .bytes, le-leb (length text) (length out) h) (take-append-seam text (drop (length text) out))
 
 -- ---- a text copied up to its i-th byte
 
@@ -109,19 +118,18 @@ module _ (first : List ℕ) (at : ℕ) (s : List ℕ) where
 module _ (x k rest : ℕ) where
   pub record Measured : Type 0 where
     pub so-far : k + length (decimal rest) ≡ 1 + length (decimal x)
-    pub bound : length (decimal x) ≤ suc x
+    pub bound : length (decimal x) ≤ 10
 
 module _ (x : ℕ) where
-  pub measured-start : Measured x 1 x
-  measured-start = record { so-far = refl; bound = length-decimal x }
+  pub measured-start : x ≤ last → Measured x 1 x
+  measured-start h = record { so-far = refl; bound = length-decimal 9 x (omega arith) }
 
   pub measured-more : (k rest : ℕ) → 10 ≤ rest → Measured x k rest → Measured x (k + 1) (rest / 10)
   measured-more k rest h w =
-      let e : length (decimal rest) ≡ length (decimal (rest / 10)) + 1 = ap length (decimal-more rest h) ∙ length-append (decimal (rest / 10)) ((48 + rest % 10) ∷ []) in
-      record { so-far = omega (arith, w .so-far); bound = w .bound }
+      record { so-far = omega (arith, w .so-far, length-more rest h); bound = w .bound }
 
   pub measured-end : (k rest : ℕ) → rest < 10 → Measured x k rest → k ≡ length (decimal x)
-  measured-end k rest h w = omega (arith, w .so-far, ap length (decimal-one rest h))
+  measured-end k rest h w = omega (arith, w .so-far, length-one rest h)
 
 -- ---- the digits of x, spelt from the last to the i-th place: `rest` is left
 
@@ -138,7 +146,7 @@ module _ (first : List ℕ) (at x : ℕ) where
 
   -- there is a place before the i-th
   pub spelling-place : (out : List ℕ) (i rest : ℕ) → 10 ≤ rest → Spelling first at x out i rest → i ≡ at + length (decimal (rest / 10)) + 1
-  spelling-place out i rest h w = omega (arith, w .place, ap length (decimal-more rest h) ∙ length-append (decimal (rest / 10)) ((48 + rest % 10) ∷ []))
+  spelling-place out i rest h w = omega (arith, w .place, length-more rest h)
 
   pub spelling-more : (out : List ℕ) (i rest : ℕ) → 10 ≤ rest → Spelling first at x out i rest
       → Spelling first at x (set out (i - 1) (48 + rest % 10)) (i - 1) (rest / 10)

@@ -1,6 +1,6 @@
 -- A line of a script, read: its items, and the command that they are.
 use mathlib.Core.Bool.{Bool, cond, not, _&&_, _||_}
-use mathlib.Core.List.{List, [], _∷_}
+use mathlib.Core.List.{List, [], _∷_, _++_}
 use Prim.Native.Nat.{ℕ, _+_, _-_, _*_}
 use Prim.Native.Char.{code}
 use lib.Dec.{eqb, leb, ltb}
@@ -14,6 +14,12 @@ space = 32
 -- Items are parted by one space: where a space leads, trails or is doubled, an item is empty.
 abbrev pub items : List ℕ → List (List ℕ)
 items l = parted space ([] ∷ []) l
+
+-- such a line: the items with a space between any two
+abbrev pub glued : List (List ℕ) → List ℕ
+glued [] = []
+glued (x ∷ []) = x
+glued (x ∷ y ∷ l) = x ++ (space ∷ glued (y ∷ l))
 
 -- ---- numbers: plain decimal, no leading zeros, of any length
 

@@ -6,7 +6,7 @@ use Prim.Native.Char.{code}
 use Prim.Native.String.{String}
 use lib.Dec.{ltb}
 use Rattle.script.specs.Lines.{lineFeed}
-use Rattle.script.specs.Items.{space}
+use Rattle.script.specs.Items.{glued}
 use Rattle.script.specs.Desk.{Reply, unknown, answers, took}
 
 -- the bytes of a text
@@ -24,11 +24,9 @@ digits (suc m) x =
 unfoldable pub decimal : ℕ → List ℕ
 decimal x = digits (suc x) x
 
--- items parted by single spaces, and a line feed
+-- a line of these items, ended
 abbrev pub joined : List (List ℕ) → List ℕ
-joined [] = lineFeed ∷ []
-joined (x ∷ []) = x ++ (lineFeed ∷ [])
-joined (x ∷ y ∷ l) = x ++ (space ∷ joined (y ∷ l))
+joined l = glued l ++ (lineFeed ∷ [])
 
 -- ---- the lines
 

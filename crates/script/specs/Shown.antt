@@ -50,8 +50,8 @@ said (Take u) l = takes u
 said Unreadable l = unreadable
 
 -- letter c and two numbers
-unfoldable pub numbered : ℕ → ℕ → ℕ → Line
-numbered c u x =
+unfoldable pub ofNumbers : ℕ → ℕ → ℕ → Line
+ofNumbers c u x =
     cond (eqb c (code "G")) (Group u x)
     (cond (eqb c (code "A")) (Arrive u x) (cond (eqb c (code "R")) (Request u x) Unreadable))
 

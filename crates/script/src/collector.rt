@@ -39,7 +39,7 @@ impl Collector {
         self
     }
 
-    // All of a part, which has no line feed in it.
+    // All bytes of a part: those before a line feed.
     pub fn extend(self, part: &[u8]) -> Self
         ensures { λ r. ⌜ Extended self (now (part .entry)) r ⌝ }
     {

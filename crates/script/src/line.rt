@@ -6,7 +6,7 @@ ghost use mathlib.Core.Path.{_≡_};
 ghost use mathlib.Core.List.{[], _∷_};
 ghost use Rattle.script.specs.Items.{items, ofItems, ofTwo, ofThree, command};
 ghost use Rattle.script.specs.Script.{inRange};
-ghost use Rattle.script.specs.Shown.{shown, numbered as Shown·numbered, groupIn};
+ghost use Rattle.script.specs.Shown.{shown, ofNumbers, groupIn};
 
 // The most bytes of a line, without its line feed.
 pub const LONGEST: usize = 80;
@@ -87,7 +87,7 @@ fn of_three(c: u8, u: u32, z: &[u8]) -> Line
 
 // The line of letter c and two numbers.
 fn numbered(c: u8, u: u32, x: u32) -> Line
-    ensures { λ r. ⌜ r ≡ Shown·numbered c u x ⌝ }
+    ensures { λ r. ⌜ r ≡ ofNumbers c u x ⌝ }
 {
     match c {
         b'G' => Line::Group { n: u, w: x },

@@ -10,7 +10,7 @@ ghost use Rattle.script.specs.Written.{Put, Wrote};
 
 // How many digits x has.
 fn places(x: u32) -> usize
-    ensures { λ r. ⌜ (r ≡ length (decimal x)) × (r ≤ 4294967296) ⌝ }
+    ensures { λ r. ⌜ (r ≡ length (decimal x)) × (r ≤ 10) ⌝ }
 {
     let mut k = 1;
     let mut rest = x;
@@ -32,10 +32,10 @@ fn put_number(out: &mut [u8], at: usize, x: u32, end: u8) -> usize
     let mut rest = x;
     while 10 <= rest {
         i -= 1;
-        out[i] = 48 + (rest % 10) as u8;
+        out[i] = b'0' + (rest % 10) as u8;
         rest = rest / 10;
     }
-    out[at] = 48 + rest as u8;
+    out[at] = b'0' + rest as u8;
     stop + 1
 }
 

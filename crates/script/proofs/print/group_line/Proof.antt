@@ -45,10 +45,14 @@ same-length c = search needs
 returns-2 : tie.Need-returns-2
 unfolding groupLine
 returns-2 c =
-    let n = decimal (c .before .before .before .before .before .before .before .before .before .before .before .before .before .before .before .before .before .args .n) in
-    let w = decimal (c .before .before .before .before .before .before .before .before .before .before .before .before .before .before .before .before .before .args .w) in
+    let window = c .before .before in
+    let count = window .before .before .before .before in
+    let word = count .before .before .before .before in
+    let a = word .before .before .before .before .before .before .before .args in
+    let n = decimal (a .n) in
+    let w = decimal (a .w) in
     put-wrote _ _ (omega (arith, length-joined (text "group") n (w ∷ []), length-joined n w [], length-joined-last w))
-    (put-item (text "group") n (w ∷ []) (c .before .before .before .before .before .before .before .before .before .before .put .ensures) (put-item n w [] (c .before .before .before .before .before .before .put-number .ensures) (c .before .before .put-number2 .ensures)))
+    (put-item (text "group") n (w ∷ []) (word .put .ensures) (put-item n w [] (count .put-number .ensures) (window .put-number2 .ensures)))
 
 pub group-line-spec : {M : Type 1} → statement M
 group-line-spec =

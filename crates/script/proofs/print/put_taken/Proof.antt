@@ -12,22 +12,28 @@ slice-aggregate-put : tie.Need-slice-aggregate-put
 slice-aggregate-put c = search needs
 
 put-requires : tie.Need-put-requires
-put-requires c κs = omega (arith, length-taken (c .before .before .before .before .args .sender) (c .before .before .before .before .args .number) (c .before .before .before .before .args .word .now))
+put-requires c κs = omega (arith, simp length-taken at (c .before .before .before .before .pre))
 
 put-number-requires : tie.Need-put-number-requires
-put-number-requires c κs = omega (arith, length-taken (c .before .before .before .before .before .before .before .before .args .sender) (c .before .before .before .before .before .before .before .before .args .number) (c .before .before .before .before .before .before .before .before .args .word .now))
+put-number-requires c κs = omega (arith, simp length-taken at (c .before .before .before .before .before .before .before .before .pre))
 
 put-number-requires-2 : tie.Need-put-number-requires-2
-put-number-requires-2 c κs = omega (arith, length-taken (c .before .before .before .before .before .before .before .before .before .before .before .before .args .sender) (c .before .before .before .before .before .before .before .before .before .before .before .before .args .number) (c .before .before .before .before .before .before .before .before .before .before .before .before .args .word .now), simp length-append at (c .before .before .before .put-number .ensures .place))
+put-number-requires-2 c κs = omega (arith, simp length-taken at (c .before .before .before .before .before .before .before .before .before .before .before .before .pre), simp length-append at (c .before .before .before .put-number .ensures .place))
 
 put-requires-2 : tie.Need-put-requires-2
-put-requires-2 c κs = omega (arith, length-taken (c .before .before .before .before .before .before .before .before .before .before .before .before .before .before .before .before .args .sender) (c .before .before .before .before .before .before .before .before .before .before .before .before .before .before .before .before .args .number) (c .before .before .before .before .before .before .before .before .before .before .before .before .before .before .before .before .args .word .now), simp length-append at (c .before .before .before .before .before .before .before .put-number .ensures .place), simp length-append at (c .before .before .before .put-number2 .ensures .place))
+put-requires-2 c κs =
+    let number = c .before .before .before in
+    let sender = number .before .before .before .before in
+    omega (arith, simp length-taken at (sender .before .before .before .before .before .before .before .before .before .pre), simp length-append at (sender .put-number .ensures .place), simp length-append at (number .put-number2 .ensures .place))
 
 slice-aggregate-put-2 : tie.Need-slice-aggregate-put-2
 slice-aggregate-put-2 c = search needs
 
 put-requires-3 : tie.Need-put-requires-3
-put-requires-3 c κs = omega (arith, length-taken (c .before .before .before .before .before .before .before .before .before .before .before .before .before .before .before .before .before .before .before .before .before .args .sender) (c .before .before .before .before .before .before .before .before .before .before .before .before .before .before .before .before .before .before .before .before .before .args .number) (c .before .before .before .before .before .before .before .before .before .before .before .before .before .before .before .before .before .before .before .before .before .args .word .now), simp length-append at (c .before .before .before .before .before .before .before .before .before .before .before .before .put-number .ensures .place), simp length-append at (c .before .before .before .before .before .before .before .before .put-number2 .ensures .place))
+put-requires-3 c κs =
+    let number = c .before .before .before .before .before .before .before .before in
+    let sender = number .before .before .before .before in
+    omega (arith, simp length-taken at (sender .before .before .before .before .before .before .before .before .before .pre), simp length-append at (sender .put-number .ensures .place), simp length-append at (number .put-number2 .ensures .place))
 
 same-length : tie.Need-same-length
 same-length c = search needs
@@ -35,13 +41,17 @@ same-length c = search needs
 returns : tie.Need-returns
 unfolding decimal
 returns c =
-    let a = c .before .before .before .before .before .before .before .before .before .before .before .before .before .before .before .before .before .before .before .before .before .before .before .before .args in
+    let end = c .before .before in
+    let word = end .before .before .before .before .before in
+    let number = word .before .before .before .before in
+    let sender = number .before .before .before .before in
+    let zero = sender .before .before .before .before in
+    let a = zero .before .before .before .before .before .args in
     let j = decimal (a .sender) in
     let x = decimal (a .number) in
-    let word = a .word .now in
-    put-item (decimal 0) j (x ∷ word ∷ []) (c .before .before .before .before .before .before .before .before .before .before .before .before .before .before .before .before .before .before .before .put .ensures)
-    (put-item j x (word ∷ []) (c .before .before .before .before .before .before .before .before .before .before .before .before .before .before .before .put-number .ensures)
-    (put-item x word [] (c .before .before .before .before .before .before .before .before .before .before .before .put-number2 .ensures) (put-then (c .before .before .before .before .before .before .before .put2 .ensures) (c .before .before .put3 .ensures))))
+    put-item (decimal 0) j (x ∷ a .word .now ∷ []) (zero .put .ensures)
+    (put-item j x (a .word .now ∷ []) (sender .put-number .ensures)
+    (put-item x (a .word .now) [] (number .put-number2 .ensures) (put-then (word .put2 .ensures) (end .put3 .ensures))))
 
 pub put-taken-spec : {M : Type 1} → statement M
 put-taken-spec =

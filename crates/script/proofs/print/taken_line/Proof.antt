@@ -30,7 +30,7 @@ returns : tie.Need-returns
 unfolding replyLine
 returns c =
     let a = c .before .before .before .before .before .before .args in
-    short-wrote _ _ (omega (arith, length-taken (c .before .before .before .before .before .before .args .sender) (c .before .before .before .before .before .before .args .number) (c .before .before .before .before .before .before .args .word .now), length-joined (decimal (a .line)) (decimal 0) (decimal (a .sender) ∷ decimal (a .number) ∷ a .word .now ∷ [])))
+    short-wrote _ _ (omega (arith, length-taken (a .sender) (a .number) (a .word .now), length-joined (decimal (a .line)) (decimal 0) (decimal (a .sender) ∷ decimal (a .number) ∷ a .word .now ∷ [])))
 
 sub-if2 : tie.Need-sub-if2
 sub-if2 c = search needs
@@ -39,13 +39,15 @@ returns-2 : tie.Need-returns-2
 unfolding replyLine
 returns-2 c =
     let a = c .before .before .before .before .before .before .before .args in
-    short-wrote _ _ (omega (arith, length-taken (c .before .before .before .before .before .before .before .args .sender) (c .before .before .before .before .before .before .before .args .number) (c .before .before .before .before .before .before .before .args .word .now), length-joined (decimal (a .line)) (decimal 0) (decimal (a .sender) ∷ decimal (a .number) ∷ a .word .now ∷ [])))
+    short-wrote _ _ (omega (arith, length-taken (a .sender) (a .number) (a .word .now), length-joined (decimal (a .line)) (decimal 0) (decimal (a .sender) ∷ decimal (a .number) ∷ a .word .now ∷ [])))
 
 put-number-requires : tie.Need-put-number-requires
 put-number-requires c κs = search needs
 
 put-taken-requires : tie.Need-put-taken-requires
-put-taken-requires c κs = omega (arith, length-taken (c .before .before .before .before .before .before .before .before .before .before .before .before .args .sender) (c .before .before .before .before .before .before .before .before .before .before .before .before .args .number) (c .before .before .before .before .before .before .before .before .before .before .before .before .args .word .now), simp length-append at (c .before .before .before .put-number .ensures .place))
+put-taken-requires c κs =
+    let a = c .before .before .before .before .before .before .before .before .before .before .before .before .args in
+    omega (arith, length-taken (a .sender) (a .number) (a .word .now), simp length-append at (c .before .before .before .put-number .ensures .place))
 
 same-length : tie.Need-same-length
 same-length c = search needs
@@ -53,10 +55,12 @@ same-length c = search needs
 returns-3 : tie.Need-returns-3
 unfolding replyLine
 returns-3 c =
-    let a = c .before .before .before .before .before .before .before .before .before .before .before .before .before .before .before .args in
+    let taken = c .before .before in
+    let number = taken .before .before .before .before in
+    let a = number .before .before .before .before .before .before .before .before .before .args in
     let l = decimal (a .sender) ∷ decimal (a .number) ∷ a .word .now ∷ [] in
-    put-wrote _ _ (omega (arith, length-taken (c .before .before .before .before .before .before .before .before .before .before .before .before .before .before .before .args .sender) (c .before .before .before .before .before .before .before .before .before .before .before .before .before .before .before .args .number) (c .before .before .before .before .before .before .before .before .before .before .before .before .before .before .before .args .word .now), length-joined (decimal (a .line)) (decimal 0) l))
-    (put-item (decimal (a .line)) (decimal 0) l (c .before .before .before .before .before .before .put-number .ensures) (c .before .before .put-taken .ensures))
+    put-wrote _ _ (omega (arith, length-taken (a .sender) (a .number) (a .word .now), length-joined (decimal (a .line)) (decimal 0) l))
+    (put-item (decimal (a .line)) (decimal 0) l (number .put-number .ensures) (taken .put-taken .ensures))
 
 pub taken-line-spec : {M : Type 1} → statement M
 taken-line-spec =

@@ -2,10 +2,11 @@
 use mathlib.Core.Path.{_≡_, refl, ap, sym, _∙_, subst}
 use mathlib.Core.List.{List, [], _∷_, _++_, append-assoc}
 use Prim.Native.Nat.{ℕ, zero, suc, _+_, _*_, _/_, _%_, _^_, _≤_, _<_}
-use native.Mathlib.Nat.{one-le-pow, pow-succ', suc-mul, mul-suc, mul-zero, add-zero, mul-le-mul-right, mod-lt, mod-eq-of-lt, div-eq-of-lt, div-add-mod', div-lt-iff-lt-mul, mul-add-div-right, mul-add-mod-self-right}
+use native.Mathlib.Nat.{one-le-pow, pow-succ', suc-mul, mul-suc, mul-zero, mul-assoc, add-mul, add-zero, mul-le-mul-right, mod-lt, mod-eq-of-lt, div-eq-of-lt, div-add-mod', div-lt-iff-lt-mul, mul-add-div-right, mul-add-mod-self-right}
 use native.Mathlib.Omega.{arith}
 use lib.ListN.{length, getD, take, drop, length-append, length-drop}
-use lib.Seq.{length-take-le, take-at, drop-at, take-add}
+use lib.Pow.{pow-add}
+use lib.Seq.{length-take-le, take-at, drop-at, drop-drop, take-add}
 use Rattle.rules.specs.Bytes.{bytes, number, allBytes, allNumbers}
 use Rattle.rules.specs.Lawful.{Each, nil, cons, Bytes}
 
@@ -82,6 +83,14 @@ bytes-number (b ∷ l) e =
     let low : (b * p + number l) % p ≡ number l = mul-add-mod-self-right b p (number l) ∙ mod-eq-of-lt less in
     rw (high, low, bytes-number l (each-tail e))
 
+pub number-++ : (l r : List ℕ) → number (l ++ r) ≡ number l * 256 ^ length r + number r
+number-++ [] r = omega arith
+number-++ (b ∷ l) r =
+    let p = 256 ^ length l in
+    let q = 256 ^ length r in
+    let power : 256 ^ length (l ++ r) ≡ p * q = ap (λ n. 256 ^ n) (length-append l r) ∙ pow-add 256 (length l) (length r) in
+    rw (power, number-++ l r) (omega (arith, mul-assoc b p q, add-mul (b * p) (number l) q))
+
 -- ---- numbers one after the other
 
 pub length-allBytes : (w : ℕ) (xs : List ℕ) → length (allBytes w xs) ≡ w * length xs
@@ -96,6 +105,19 @@ each-allBytes w (x ∷ xs) e =
 pub length-allNumbers : (w n : ℕ) (l : List ℕ) → length (allNumbers w n l) ≡ n
 length-allNumbers w zero l = refl
 length-allNumbers w (suc n) l = ap suc (length-allNumbers w n (drop w l))
+
+pub allNumbers-suc : (w n : ℕ) (l : List ℕ) → allNumbers w (suc n) l ≡ allNumbers w n l ++ (number (take w (drop (w * n) l)) ∷ [])
+allNumbers-suc w zero l = rw mul-zero
+allNumbers-suc w (suc n) l =
+    let place : w + w * n ≡ w * suc n = omega (arith, mul-suc w n) in
+    rw (allNumbers-suc w n (drop w l), drop-drop (w * n) w l, place)
+
+-- numbers of one byte are the bytes
+pub allNumbers-one : (l : List ℕ) → allNumbers 1 (length l) l ≡ l
+allNumbers-one [] = refl
+allNumbers-one (x ∷ l) =
+    let byte : x * 1 + 0 ≡ x = omega arith in
+    rw (byte, allNumbers-one l)
 
 -- whatever follows
 pub allNumbers-allBytes : (w : ℕ) (xs r : List ℕ) → Each (λ x. x < 256 ^ w) xs → allNumbers w (length xs) (allBytes w xs ++ r) ≡ xs

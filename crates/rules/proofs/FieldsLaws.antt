@@ -2,27 +2,37 @@
 -- and over any list of tags.
 use mathlib.Core.Bool.{Bool, true, false, cond, false≢true, _&&_}
 use mathlib.Core.List.{List, [], _∷_, _++_, append-assoc}
-use mathlib.Core.Path.{_≡_, refl, sym, ap, _∙_, subst}
+use mathlib.Core.Path.{_≡_, refl, sym, ap, ap₂, _∙_, subst}
 use Prim.Native.Nat.{ℕ, zero, suc, _+_, _-_, _*_, _/_, _%_, _^_, _≤_, _<_}
 use native.Mathlib.Nat.{mul-div-right, mul-mod-right, div-add-mod}
 use native.Mathlib.Omega.{arith}
 use lib.Dec.{ltb, eqb·suc-zero}
 use lib.ListN.{length, getD, take, drop, length-append, length-drop, take-append-drop}
-use lib.Seq.{length-take-le, drop-at, drop-drop}
+use lib.Seq.{length-take-le, drop-at, drop-cons, drop-drop, drop-length}
 use borrow.Author.Tests.{ltb-true, leb-true, eqb-true, le-leb, eq-eqb}
 use Rattle.rules.specs.Maps.{all, among}
 use Rattle.rules.specs.Bytes.{bytes, allBytes}
-use Rattle.rules.specs.Fields.{Row, rowOf, tagsFrom, field, print, lengthOf, fieldFits, fits, firstNumbers, numbers}
+use Rattle.rules.specs.Fields.{Row, noRow, rowOf, tagsFrom, field, print, lengthOf, fieldFits, fits, firstNumbers, numbers}
 use Rattle.rules.specs.Lawful.{Each, nil, cons, Bytes}
 use Rattle.rules.proofs.MapsLaws.{and-left, and-right, and-both}
 use Rattle.rules.proofs.BytesLaws.{each-head, each-tail, each-++, each-take, each-drop, each-bytes, each-allBytes, number-bytes, bytes-number, length-allBytes, length-allNumbers, each-allNumbers, allNumbers-allBytes, allBytes-allNumbers}
 
 -- ---- the table
 
+all-getD : (p : Row → Bool) → p noRow ≡ true → (rs : List Row) → all p rs ≡ true → (i : ℕ) → p (getD rs i noRow) ≡ true
+all-getD p d [] h i = d
+all-getD p d (r ∷ rs) h zero = and-left (p r) (all p rs) h
+all-getD p d (r ∷ rs) h (suc i) = all-getD p d rs (and-right (p r) (all p rs) h) i
+
+-- what the test finds of each line of a table holds of the line of any tag
+pub all-rowOf : (p : Row → Bool) → p noRow ≡ true → (rs : List Row) → all p rs ≡ true → (t : ℕ) → p (rowOf rs t) ≡ true
+unfolding rowOf
+all-rowOf p d rs h t = all-getD p d rs h (t - 1)
+
+-- the test of a table: each width is not 0, and each length fits two bytes
 abbrev usableRow : Row → Bool
 usableRow r = ltb 0 (r .width) && ltb (r .greatest) 65536
 
--- the test of a table: each width is not 0, and each length fits two bytes
 abbrev pub usable : List Row → Bool
 usable rs = all usableRow rs
 
@@ -30,16 +40,32 @@ pub record Usable (r : Row) : Type 0 where
   pub width : 0 < r .width
   pub short : r .greatest < 65536
 
-usable-row : (r : Row) → usableRow r ≡ true → Usable r
-usable-row r h =
-    let a = ltb 0 (r .width) in
-    let b = ltb (r .greatest) 65536 in
-    record { width = ltb-true 0 (r .width) (and-left a b h); short = ltb-true (r .greatest) 65536 (and-right a b h) }
+pub usable-rowOf : (rs : List Row) → usable rs ≡ true → (t : ℕ) → Usable (rowOf rs t)
+usable-rowOf rs u t =
+    let k = and-both _ _ (all-rowOf usableRow refl rs u t) in
+    record { width = ltb-true _ _ (k .0); short = ltb-true _ _ (k .1) }
 
-usable-at : (rs : List Row) → usable rs ≡ true → (i : ℕ) → Usable (getD rs i (record { width = 1; least = 0; greatest = 0; kinds = [] }))
-usable-at [] h i = record { width = omega arith; short = omega arith }
-usable-at (r ∷ rs) h zero = usable-row r (and-left (usableRow r) (usable rs) h)
-usable-at (r ∷ rs) h (suc i) = usable-at rs (and-right (usableRow r) (usable rs) h) i
+-- ---- the tags of a kind, one line of the table after the other
+
+-- those from tag t on
+abbrev pub tagsLeft : List Row → ℕ → ℕ → List ℕ
+tagsLeft rs t k = tagsFrom t (drop (t - 1) rs) k
+
+module _ (rs : List Row) (t k : ℕ) where
+  pub tagsLeft-step : 1 ≤ t → t ≤ length rs
+      → tagsLeft rs t k ≡ cond (among k (rowOf rs t .kinds)) (t ∷ tagsLeft rs (t + 1) k) (tagsLeft rs (t + 1) k)
+  unfolding rowOf
+  tagsLeft-step low high =
+      let after : ℕ → ℕ → List ℕ = λ i u. tagsFrom u (drop i rs) k in
+      let next : suc t ≡ t + 1 = omega arith in
+      let place : suc (t - 1) ≡ t + 1 - 1 = omega arith in
+      ap (λ l. tagsFrom t l k) (drop-cons rs (t - 1) noRow (omega arith))
+      ∙ ap₂ (λ i u. cond (among k (rowOf rs t .kinds)) (t ∷ after i u) (after i u)) place next
+
+  pub tagsLeft-end : t ≡ length rs + 1 → tagsLeft rs t k ≡ []
+  tagsLeft-end e =
+      let place : t - 1 ≡ length rs = omega arith in
+      rw (place, drop-length rs)
 
 -- ---- one field
 
@@ -94,12 +120,8 @@ module _ (rs : List Row) (u : usable rs ≡ true) (t : ℕ) (v r : List ℕ) (k 
   abbrev w : ℕ
   w = rowOf rs t .width
 
-  line : Usable (rowOf rs t)
-  unfolding rowOf
-  line = usable-at rs u (t - 1)
-
   fits-two : length (allBytes w v) < 65536
-  fits-two = let x = line in omega (arith, length-allBytes w v)
+  fits-two = omega (arith, length-allBytes w v, k .greatest, usable-rowOf rs u t .short)
 
   fieldFits-field : fieldFits rs t (field t (allBytes w v) ++ r) ≡ true
   fieldFits-field =
@@ -117,7 +139,7 @@ module _ (rs : List Row) (u : usable rs ≡ true) (t : ℕ) (v r : List ℕ) (k 
   firstNumbers-field : firstNumbers rs t (field t (allBytes w v) ++ r) ≡ v
   firstNumbers-field =
       let e : lengthOf (field t (allBytes w v) ++ r) ≡ w * length v = lengthOf-field t (allBytes w v) r fits-two ∙ length-allBytes w v in
-      rw (e, mul-div-right (length v) (line .width)) (allNumbers-allBytes w v r (k .each))
+      rw (e, mul-div-right (length v) (usable-rowOf rs u t .width)) (allNumbers-allBytes w v r (k .each))
 
 -- ---- a field that was read
 

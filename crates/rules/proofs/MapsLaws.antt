@@ -48,6 +48,10 @@ and-right false b h = absurd (false≢true h)
 pub and-both : (a b : Bool) → a && b ≡ true → (a ≡ true) × (b ≡ true)
 and-both a b h = (and-left a b h, and-right a b h)
 
+pub and-false : (a : Bool) → a && false ≡ false
+and-false true = refl
+and-false false = refl
+
 pub and-intro : (a b : Bool) → a ≡ true → b ≡ true → a && b ≡ true
 and-intro true b p q = q
 and-intro false b p q = p

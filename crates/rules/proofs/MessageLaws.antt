@@ -1,6 +1,7 @@
 -- Reading and writing frames undo each other, for both kinds; what is read is lawful; the lengths of frames.
 use mathlib.Core.Bool.{Bool, true, false, _&&_}
 use mathlib.Core.List.{List, [], _∷_}
+use mathlib.Core.Logic.{_⊎_, inl, inr, ⊎-elim}
 use mathlib.Core.Option.{Option, none, some}
 use mathlib.Core.Path.{_≡_, refl, sym, ap, subst, _∙_}
 use Prim.Native.Nat.{ℕ, _+_, _*_, _^_, _≤_, _<_}
@@ -11,7 +12,7 @@ use borrow.Author.Tests.{ltb-true, lt-ltb, eqb-true, eq-eqb}
 use Rattle.rules.specs.Fields.{Row, table, rowOf, tagsOf, print, fits, numbers}
 use Rattle.rules.specs.Message.{Message, Request, Said, message, request, last, edition, kindOf, numbersOf, encode, noZero, inLimits, one, asMessage, asRequest, when, readAs, orElse, decode}
 use Rattle.rules.specs.Lawful.{Each, nil, cons, Bytes, LawfulAck, Lawful}
-use Rattle.rules.proofs.MapsLaws.{and-both, and-intro}
+use Rattle.rules.proofs.MapsLaws.{and-both, and-false, and-intro}
 use Rattle.rules.proofs.BytesLaws.{each-at, each-map}
 use Rattle.rules.proofs.FieldsLaws.{usable, Content, Contents, fits-print, numbers-print, print-numbers, contents-numbers, length-print, each-tagsFrom, each-print}
 
@@ -23,28 +24,34 @@ table-usable = refl
 
 -- ---- the limits beyond the widths
 
-message-limits : (m : Message) → inLimits (message m) ≡ true → (noZero (m .ack) ≡ true) × (1 ≤ m .seq) × (m .seq < last)
+pub message-limits : (m : Message) → inLimits (message m) ≡ true → (noZero (m .ack) ≡ true) × (1 ≤ m .seq) × (m .seq < last)
 unfolding inLimits
 message-limits m h =
     let below = and-both _ _ h in
     let above = and-both _ _ (below .0) in
     (above .0, omega (arith, ltb-true), omega (arith, ltb-true))
 
-request-limits : (r : Request) → inLimits (request r) ≡ true → (noZero (r .ack) ≡ true) × (1 ≤ r .lseq)
+pub request-limits : (r : Request) → inLimits (request r) ≡ true → (noZero (r .ack) ≡ true) × (1 ≤ r .lseq)
 unfolding inLimits
 request-limits r h =
     let above = and-both _ _ h in
     (above .0, omega (arith, ltb-true))
+
+pub message-inLimits : (m : Message) → noZero (m .ack) ≡ true → 1 ≤ m .seq → m .seq < last → inLimits (message m) ≡ true
+unfolding inLimits
+message-inLimits m a low high = rw (a, lt-ltb 0 (m .seq) low, lt-ltb (m .seq) last high)
+
+pub request-inLimits : (r : Request) → noZero (r .ack) ≡ true → 1 ≤ r .lseq → inLimits (request r) ≡ true
+unfolding inLimits
+request-inLimits r a low = rw (a, lt-ltb 0 (r .lseq) low)
 
 noZero-ack : {ack : List ℕ} → Each (λ x. (1 ≤ x) × (x ≤ last)) ack → noZero ack ≡ true
 noZero-ack nil = refl
 noZero-ack (cons {x = x} {l = l} p e) = and-intro (ltb 0 x) (noZero l) (lt-ltb 0 x (p .0)) (noZero-ack e)
 
 lawful-inLimits : (x : Said) → Lawful x → inLimits x ≡ true
-unfolding inLimits
-lawful-inLimits (message m) g =
-    rw (noZero-ack (g .ack .each), lt-ltb 0 (m .seq) (g .seq-least), lt-ltb (m .seq) last (g .seq-greatest))
-lawful-inLimits (request r) g = rw (noZero-ack (g .ack .each), lt-ltb 0 (r .lseq) (g .lseq-least))
+lawful-inLimits (message m) g = message-inLimits m (noZero-ack (g .ack .each)) (g .seq-least) (g .seq-greatest)
+lawful-inLimits (request r) g = request-inLimits r (noZero-ack (g .ack .each)) (g .lseq-least)
 
 -- ---- a lawful message can be written
 
@@ -110,10 +117,6 @@ readAs-encode x g =
       lawful-inLimits x g,
     )
 
-and-false : (a : Bool) → a && false ≡ false
-and-false true = refl
-and-false false = refl
-
 pub request-no-message : (r : Request) → readAs 1 asMessage (encode (request r)) ≡ none
 unfolding readAs encode table tagsOf rowOf
 request-no-message r = simp and-false
@@ -125,6 +128,7 @@ decode-encode (request r) g = rw (request-no-message r, readAs-encode (request r
 
 -- ---- what is read is lawful, and the frame of what was read is the frame
 
+-- l is read as x, of kind k
 pub record Read (k : ℕ) («as» : List (List ℕ) → Said) (l : List ℕ) (x : Said) : Type 0 where
   pub fit : fits table (tagsOf table k) l ≡ true
   pub edition-is : one (numbers table (tagsOf table k) l) 0 ≡ edition
@@ -150,6 +154,26 @@ read k «as» l x h =
       limits = limits .1;
       same = w .1;
     }
+
+pub read-some : (k : ℕ) («as» : List (List ℕ) → Said) (l : List ℕ) (x : Said) → Read k «as» l x → readAs k «as» l ≡ some x
+unfolding readAs
+read-some k «as» l x r =
+    rw (r .fit, eq-eqb _ _ (r .edition-is), eq-eqb _ _ (r .kind-is), r .limits) (ap some (r .same))
+
+pub read-none : (k : ℕ) («as» : List (List ℕ) → Said) (l : List ℕ) → ((x : Said) → Read k «as» l x → ⊥) → readAs k «as» l ≡ none
+read-none k «as» l h = go (readAs k «as» l) refl
+  where
+    go : (o : Option Said) → readAs k «as» l ≡ o → o ≡ none
+    go none e = refl
+    go (some x) e = absurd (h x (read k «as» l x e))
+
+pub decode-read : (l : List ℕ) (x : Said) → decode l ≡ some x → Read 1 asMessage l x ⊎ Read 2 asRequest l x
+unfolding decode
+decode-read l x h = go (readAs 1 asMessage l) refl h
+  where
+    go : (o : Option Said) → readAs 1 asMessage l ≡ o → orElse o (readAs 2 asRequest l) ≡ some x → Read 1 asMessage l x ⊎ Read 2 asRequest l x
+    go (some y) e p = inl (read 1 asMessage l x (e ∙ p))
+    go none e p = inr (read 2 asRequest l x p)
 
 -- x is what the numbers v say, all of it
 record Whole (v : List (List ℕ)) (x : Said) : Type 0 where
@@ -260,12 +284,7 @@ module _ (l : List ℕ) (b : Bytes l) (x : Said) where
       })
 
   is-frame : decode l ≡ some x → IsFrame l x
-  unfolding decode
-  is-frame h = go (readAs 1 asMessage l) refl h
-    where
-      go : (o : Option Said) → readAs 1 asMessage l ≡ o → orElse o (readAs 2 asRequest l) ≡ some x → IsFrame l x
-      go (some y) e p = from-message (read 1 asMessage l x (e ∙ p))
-      go none e p = from-request (read 2 asRequest l x p)
+  is-frame h = ⊎-elim from-message from-request (decode-read l x h)
 
   pub decode-lawful : decode l ≡ some x → Lawful x
   decode-lawful h = is-frame h .whole .lawful

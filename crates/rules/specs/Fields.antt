@@ -45,9 +45,12 @@ table =
 
 -- Reading and writing go by any table rs, so that an edition is a table.
 
--- the line of tag t, the first being 1
+-- the line of tag t, the first being 1; past the table, a line of no kind
+abbrev pub noRow : Row
+noRow = row 1 0 0 []
+
 unfoldable pub rowOf : List Row → ℕ → Row
-rowOf rs t = getD rs (t - 1) (row 1 0 0 [])
+rowOf rs t = getD rs (t - 1) noRow
 
 -- the tags of kind k, in rising order: from tag t on, in the lines rs
 abbrev pub tagsFrom : ℕ → List Row → ℕ → List ℕ

@@ -1,0 +1,91 @@
+-- Numbers in a slice: one turn of each loop that reads them.
+use mathlib.Core.Bool.{Bool, true, false, _&&_}
+use mathlib.Core.Logic.{_≢_}
+use mathlib.Core.List.{List, [], _∷_, _++_, append-assoc}
+use mathlib.Core.Path.{_≡_, refl, sym, ap, subst, _∙_}
+use Prim.Native.Nat.{ℕ, zero, suc, _+_, _-_, _*_, _/_, _^_, _≤_, _<_}
+use native.Mathlib.Nat.{pow-le-pow-right}
+use native.Mathlib.Omega.{arith}
+use lib.Dec.{ltb}
+use lib.ListN.{length, getD, take, drop, set, replicate, length-append, length-drop, length-replicate}
+use lib.Seq.{take-at, take-suc, getD-drop, getD-take, drop-cons, drop-drop, drop-length, set-append-seam}
+use borrow.Author.Tests.{lt-ltb, le-ltb}
+use Rattle.rules.specs.Bytes.{number, allNumbers}
+use Rattle.rules.specs.Message.{noZero}
+use Rattle.rules.proofs.BytesLaws.{number-++, length-allNumbers, allNumbers-suc}
+use Rattle.frame.specs.Acks.{eight, acksOf}
+
+-- ---- a number of w bytes, j of which are read
+
+pub room : (w j x : ℕ) → w ≤ 4 → j < w → x < 256 ^ j → x < 16777216
+room w j x a b h = omega (arith, pow-le-pow-right {n = 256} (omega arith) {i = j} {j = 3} (omega arith))
+
+module _ (s : List ℕ) (p j x b : ℕ) (e : x ≡ number (take j (drop p s))) (h : p + j < length s) (f : b ≡ getD s (p + j) 0) where
+  pub one-more : x * 256 + b ≡ number (take (j + 1) (drop p s))
+  one-more =
+      let next : j + 1 ≡ suc j = omega arith in
+      rw (next, take-suc (drop p s) j 0 (rw length-drop (omega arith)), number-++, getD-drop) (omega arith)
+
+pub one-more-fits : (j x b : ℕ) → x < 256 ^ j → b < 256 → x * 256 + b < 256 ^ (j + 1)
+one-more-fits j x b h g =
+    let next : j + 1 ≡ suc j = omega arith in
+    rw next (omega arith)
+
+-- ---- the eight numbers, i of which are read
+
+pub eight-more : (l : List ℕ) (i x : ℕ) → length l ≡ i → i < 8 → set (eight l) i x ≡ eight (l ++ (x ∷ []))
+unfolding eight
+eight-more l i x e h =
+    let k = 7 - i in
+    let before : 8 - length l ≡ suc k = omega arith in
+    let after : 8 - length (l ++ (x ∷ [])) ≡ k = omega (arith, length-append l (x ∷ [])) in
+    rw (before, after)
+    (subst (λ m. set (l ++ replicate (suc k) 0) m x ≡ l ++ (x ∷ replicate k 0)) e (set-append-seam l 0 (replicate k 0) x)
+    ∙ sym (append-assoc l (x ∷ []) (replicate k 0)))
+
+pub acks-more : (s : List ℕ) (p i x : ℕ) → i < 8 → x ≡ number (take 4 (drop (p + 4 * i) s))
+    → set (eight (allNumbers 4 i (drop p s))) i x ≡ eight (allNumbers 4 (i + 1) (drop p s))
+acks-more s p i x h e =
+    let next : i + 1 ≡ suc i = omega arith in
+    eight-more (allNumbers 4 i (drop p s)) i x (length-allNumbers 4 i (drop p s)) h
+    ∙ rw (next, allNumbers-suc 4 i (drop p s), drop-drop (4 * i) p s, e)
+
+-- ---- the test of each number
+
+module _ (a : List ℕ) (i : ℕ) (h : i < length a) where
+  noZero-front : noZero (drop i a) ≡ ltb 0 (getD a i 0) && noZero (drop (i + 1) a)
+  noZero-front =
+      let next : i + 1 ≡ suc i = omega arith in
+      rw (next, drop-cons a i 0 h)
+
+  pub zero-here : getD a i 0 ≡ 0 → noZero (drop i a) ≡ false
+  zero-here e = noZero-front ∙ rw e
+
+  pub no-zero-here : getD a i 0 ≢ 0 → noZero (drop i a) ≡ noZero (drop (i + 1) a)
+  no-zero-here e = noZero-front ∙ rw (lt-ltb 0 (getD a i 0) (omega arith))
+
+pub no-zero-left : (a : List ℕ) (i : ℕ) → i ≡ length a → noZero (drop i a) ≡ true
+no-zero-left a i e = rw (e, drop-length a)
+
+-- ---- the whole of ACK
+
+pub length-eight : (l : List ℕ) → length l ≤ 8 → length (eight l) ≡ 8
+unfolding eight
+length-eight l h = length-append l (replicate (8 - length l) 0) ∙ omega (arith, length-replicate {A = ℕ} (8 - length l) 0)
+
+pub take-eight : (l : List ℕ) (n : ℕ) → length l ≡ n → take n (eight l) ≡ l
+unfolding eight
+take-eight l n e = take-at l (replicate (8 - length l) 0) n e
+
+module _ (s : List ℕ) (p x : ℕ) (a : List ℕ) (ex : x ≡ number (take 2 (drop p s))) (ea : a ≡ eight (allNumbers 4 (x / 4) (drop (p + 2) s))) where
+  count : length (allNumbers 4 (x / 4) (drop (p + 2) s)) ≡ x / 4
+  count = length-allNumbers 4 (x / 4) (drop (p + 2) s)
+
+  pub length-all : x / 4 ≤ 8 → length a ≡ 8
+  length-all h = ap length ea ∙ length-eight (allNumbers 4 (x / 4) (drop (p + 2) s)) (omega (arith, count))
+
+  pub acks-are : (r : Bool) → r ≡ noZero (take (x / 4) a) → record { ok = r; n = x / 4; all = a } ≡ acksOf s p
+  unfolding acksOf
+  acks-are r er =
+      let test : r ≡ noZero (allNumbers 4 (x / 4) (drop (p + 2) s)) = er ∙ ap (λ l. noZero (take (x / 4) l)) ea ∙ ap noZero (take-eight _ (x / 4) count) in
+      rw (test, ea, ex)

@@ -1,0 +1,5 @@
+-- What the reader's contracts say, over the rules.
+pub mod Table
+pub mod Field
+pub mod Acks
+pub mod Frame

@@ -1,0 +1,134 @@
+// The ten tags of 01: what reader and writer know of each stands here and nowhere else.
+ghost use mathlib.Core.Path.{_≡_};
+ghost use Rattle.rules.specs.Fields.{table, rowOf};
+ghost use Rattle.frame.specs.Table.{lineOf, has, lengthFits};
+
+// The content of a field is numbers of `width` bytes each; its length in bytes is from `least` to `greatest`; data
+// messages have the field, requests have it.
+pub struct Row {
+    pub width: usize,
+    pub least: usize,
+    pub greatest: usize,
+    pub message: bool,
+    pub request: bool,
+}
+
+const TABLE: [Row; 10] = [
+    Row {
+        width: 1,
+        least: 1,
+        greatest: 1,
+        message: true,
+        request: true,
+    },
+    Row {
+        width: 1,
+        least: 1,
+        greatest: 1,
+        message: true,
+        request: true,
+    },
+    Row {
+        width: 4,
+        least: 4,
+        greatest: 4,
+        message: true,
+        request: true,
+    },
+    Row {
+        width: 1,
+        least: 1,
+        greatest: 1,
+        message: true,
+        request: true,
+    },
+    Row {
+        width: 4,
+        least: 4,
+        greatest: 4,
+        message: true,
+        request: false,
+    },
+    Row {
+        width: 4,
+        least: 8,
+        greatest: 32,
+        message: true,
+        request: true,
+    },
+    Row {
+        width: 2,
+        least: 2,
+        greatest: 2,
+        message: true,
+        request: false,
+    },
+    Row {
+        width: 1,
+        least: 1,
+        greatest: 1,
+        message: false,
+        request: true,
+    },
+    Row {
+        width: 4,
+        least: 4,
+        greatest: 4,
+        message: false,
+        request: true,
+    },
+    Row {
+        width: 1,
+        least: 0,
+        greatest: 48,
+        message: true,
+        request: false,
+    },
+];
+
+// The line of a tag; past the table, a line of no kind.
+pub fn row_of(tag: u8) -> Row
+    ensures { λ r. ⌜ r ≡ lineOf (rowOf table tag) ⌝ }
+{
+    if tag == 0 {
+        return TABLE[0];
+    }
+    if 10 < tag {
+        return Row {
+            width: 1,
+            least: 0,
+            greatest: 0,
+            message: false,
+            request: false,
+        };
+    }
+    TABLE[(tag - 1) as usize]
+}
+
+// Frames of this kind have this tag.
+pub fn has_tag(tag: u8, kind: u8) -> bool
+    ensures { λ r. ⌜ r ≡ has tag kind ⌝ }
+{
+    let row = row_of(tag);
+    if kind == 1 {
+        return row.message;
+    }
+    if kind == 2 {
+        return row.request;
+    }
+    false
+}
+
+// A field of this tag can be n bytes long.
+pub fn length_fits(tag: u8, n: usize) -> bool
+    ensures { λ r. ⌜ r ≡ lengthFits tag n ⌝ }
+{
+    let row = row_of(tag);
+    if n < row.least {
+        return false;
+    }
+    if row.greatest < n {
+        return false;
+    }
+    n % row.width == 0
+}

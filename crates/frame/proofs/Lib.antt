@@ -6,3 +6,5 @@ pub mod Turn
 pub mod Places
 pub mod Reading
 pub mod Outs
+pub mod Stores
+pub mod Handing

@@ -137,7 +137,7 @@ module _ (l : List ℕ) (h : fits table (tagsOf table 2) l ≡ true) where
   unfolding table tagsOf
   request-at = request-places l (head (6 ∷ 8 ∷ 9 ∷ []) l h .rest)
 
-  request-is : asRequest (numbers table (tagsOf table 2) l) ≡ request (requestAt l)
+  pub request-is : asRequest (numbers table (tagsOf table 2) l) ≡ request (requestAt l)
   unfolding table tagsOf
   request-is = ap asRequest (head (6 ∷ 8 ∷ 9 ∷ []) l h .split ∙ ap (headed l) (request-at .split))
 

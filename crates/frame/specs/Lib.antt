@@ -3,3 +3,4 @@ pub mod Table
 pub mod Field
 pub mod Acks
 pub mod Frame
+pub mod Export

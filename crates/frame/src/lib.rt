@@ -3,6 +3,7 @@ ghost use mathlib.Core.Path.{_≡_};
 ghost use Rattle.rules.specs.Message.{decode};
 ghost use Rattle.frame.specs.Frame.{frameOf, payloadOf};
 
+mod export;
 mod field;
 mod kind;
 mod number;

@@ -1,9 +1,9 @@
 -- The code's table is the rules' table, entry by entry; no line is of a kind beyond data and request.
-use mathlib.Core.Bool.{Bool, true, false, _||_}
+use mathlib.Core.Bool.{Bool, true, false, cond}
 use mathlib.Core.Logic.{_≢_}
 use mathlib.Core.List.{List, [], _∷_, map}
 use mathlib.Core.Path.{_≡_, refl, sym, ap, subst, _∙_}
-use Prim.Native.Nat.{ℕ, zero, suc, _-_, _%_, _≤_, _<_}
+use Prim.Native.Nat.{ℕ, zero, suc, _+_, _-_, _%_, _≤_, _<_}
 use native.Mathlib.Omega.{arith}
 use lib.Dec.{eqb}
 use lib.ListN.{length, getD, List·getD-map, List·getD-eq-default}
@@ -11,7 +11,7 @@ use borrow.Author.Tests.{ne-eqb, le-leb, lt-leb}
 use Rattle.rules.specs.Maps.{between, all, among}
 use Rattle.rules.specs.Fields.{Row as Line, noRow, table, rowOf}
 use Rattle.rules.proofs.MapsLaws.{and-false, and-both, between-low, between-high}
-use Rattle.rules.proofs.FieldsLaws.{all-rowOf, usable-rowOf}
+use Rattle.rules.proofs.FieldsLaws.{all-rowOf, usable-rowOf, tagsLeft, tagsLeft-step, tagsLeft-end}
 use Rattle.rules.proofs.MessageLaws.{table-usable}
 use Rattle.frame.specs.declared.table.Row.{Row}
 use Rattle.frame.specs.Table.{lineOf, has, lengthFits}
@@ -58,6 +58,22 @@ module _ (t : ℕ) where
   pub has-no-other : (k : ℕ) → k ≢ 1 → k ≢ 2 → has t k ≡ false
   unfolding has
   has-no-other k a b = among-no-other k (rowOf table t .kinds) (all-rowOf twoKinds refl table table-twoKinds t) a b
+
+-- ---- a loop over the table's tags
+
+ten : length table ≡ 10
+unfolding table
+ten = refl
+
+module _ (t k : ℕ) where
+  pub tags-step : 1 ≤ t → t ≤ 10 → (b : Bool) → has t k ≡ b
+      → tagsLeft table t k ≡ cond b (t ∷ tagsLeft table (t + 1) k) (tagsLeft table (t + 1) k)
+  unfolding has
+  tags-step low high b e =
+      tagsLeft-step table t k low (omega (arith, ten)) ∙ ap (λ b. cond b (t ∷ tagsLeft table (t + 1) k) (tagsLeft table (t + 1) k)) e
+
+  pub tags-end : t ≡ 11 → tagsLeft table t k ≡ []
+  tags-end e = tagsLeft-end table t k (omega (arith, ten))
 
 -- ---- the ways out of `length_fits`
 

@@ -5,7 +5,7 @@ use Prim.Native.Nat.{ℕ, zero, suc, _+_, _≤_, _<_}
 use native.Mathlib.Nat.{add-zero, zero-add}
 use native.Mathlib.Omega.{arith}
 use lib.ListN.{length, getD, drop, set}
-use lib.Seq.{sets, sets-eq, drop-cons, drop-length}
+use lib.Seq.{sets, sets-eq, set-comm, drop-cons, drop-length}
 use Rattle.rules.specs.Calls.{written}
 
 pub sets-++ : (d : List ℕ) (at : ℕ) (l r : List ℕ) → sets (sets d at l) (at + length l) r ≡ sets d at (l ++ r)
@@ -13,6 +13,13 @@ sets-++ d at [] r = rw add-zero
 sets-++ d at (x ∷ l) r =
     let place : at + suc (length l) ≡ suc at + length l = omega arith in
     rw place (sets-++ (set d at x) (suc at) l r)
+
+-- a store past a run may come before it
+pub set-sets : (d : List ℕ) (at : ℕ) (l : List ℕ) (i x : ℕ) → at + length l ≤ i → set (sets d at l) i x ≡ sets (set d i x) at l
+set-sets d at [] i x h = refl
+set-sets d at (y ∷ l) i x h =
+    set-sets (set d at y) (suc at) l i x (omega arith)
+    ∙ ap (λ e. sets e (suc at) l) (set-comm d at i y x (λ e. omega arith))
 
 -- stores from the front leave what the rules say was written
 pub sets-written : (d l : List ℕ) → length l ≤ length d → sets d 0 l ≡ written d l

@@ -9,14 +9,12 @@ use lib.ListN.{length, drop, length-drop}
 use lib.Seq.{drop-drop}
 use borrow.Author.Tests.{eqb-true, eq-eqb}
 use Rattle.rules.specs.Fields.{table, lengthOf, fieldFits, fits}
-use Rattle.rules.proofs.FieldsLaws.{is-field, tagsLeft, tagsLeft-step, tagsLeft-end}
+use Rattle.rules.proofs.MapsLaws.{same-test}
+use Rattle.rules.proofs.FieldsLaws.{is-field, tagsLeft}
 use Rattle.frame.specs.declared.field.Field.{Field}
 use Rattle.frame.specs.Table.{has}
 use Rattle.frame.specs.Field.{noField, fieldAt}
-
-ten : length table ≡ 10
-unfolding table
-ten = refl
+use Rattle.frame.proofs.Lines.{tags-step, tags-end}
 
 -- what was found is whether the field fits, and its end
 ok-is : (l : List ℕ) (p t : ℕ) → fieldAt l p t .ok ≡ fieldFits table t (drop p l)
@@ -32,17 +30,13 @@ unfolding fieldAt
 end-is l p t h = rw h
 
 module _ (l : List ℕ) (p t k : ℕ) (low : 1 ≤ t) (high : t ≤ 10) where
-  step : (b : Bool) → has t k ≡ b → tagsLeft table t k ≡ cond b (t ∷ tagsLeft table (t + 1) k) (tagsLeft table (t + 1) k)
-  unfolding has
-  step b e = tagsLeft-step table t k low (omega (arith, ten)) ∙ ap (λ b. cond b (t ∷ tagsLeft table (t + 1) k) (tagsLeft table (t + 1) k)) e
-
   pub pass-by : has t k ≡ false → fits table (tagsLeft table t k) (drop p l) ≡ fits table (tagsLeft table (t + 1) k) (drop p l)
-  pass-by n = ap (λ ts. fits table ts (drop p l)) (step false n)
+  pass-by n = ap (λ ts. fits table ts (drop p l)) (tags-step t k low high false n)
 
   here : has t k ≡ true
       → fits table (tagsLeft table t k) (drop p l)
       ≡ fieldFits table t (drop p l) && fits table (tagsLeft table (t + 1) k) (drop (3 + lengthOf (drop p l)) (drop p l))
-  here y = ap (λ ts. fits table ts (drop p l)) (step true y)
+  here y = ap (λ ts. fits table ts (drop p l)) (tags-step t k low high true y)
 
   module _ (y : has t k ≡ true) (f : Field) (e : f ≡ fieldAt l p t) where
     fit : (b : Bool) → f .ok ≡ b → fieldFits table t (drop p l) ≡ b
@@ -64,16 +58,10 @@ module _ (l : List ℕ) (p t k : ℕ) (low : 1 ≤ t) (high : t ≤ 10) where
         let x = is-field table t (drop p l) (fit true o) in
         omega (arith, end-here o, length-drop p l, x .long, x .inside)
 
--- two tests that say the same
-same : (x y : Bool) → (x ≡ true → y ≡ true) → (y ≡ true → x ≡ true) → x ≡ y
-same true y f g = sym (f refl)
-same false true f g = g refl
-same false false f g = refl
-
 -- past the table nothing is left, and nothing may follow
 pub done : (l : List ℕ) (p t k : ℕ) → t ≡ 11 → p ≤ length l → eqb p (length l) ≡ fits table (tagsLeft table t k) (drop p l)
 done l p t k e h =
-    rw (tagsLeft-end table t k (omega (arith, ten)))
-    (same (eqb p (length l)) (eqb (length (drop p l)) 0)
+    rw (tags-end t k e)
+    (same-test (eqb p (length l)) (eqb (length (drop p l)) 0)
     (λ x. eq-eqb (length (drop p l)) 0 (omega (arith, length-drop p l, eqb-true p (length l) x)))
     (λ x. eq-eqb p (length l) (omega (arith, length-drop p l, eqb-true (length (drop p l)) 0 x))))

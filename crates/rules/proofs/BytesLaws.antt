@@ -2,7 +2,7 @@
 use mathlib.Core.Path.{_≡_, refl, ap, sym, _∙_, subst}
 use mathlib.Core.List.{List, [], _∷_, _++_, append-assoc}
 use Prim.Native.Nat.{ℕ, zero, suc, _+_, _*_, _/_, _%_, _^_, _≤_, _<_}
-use native.Mathlib.Nat.{one-le-pow, pow-succ', suc-mul, mul-suc, mul-zero, mul-assoc, add-mul, add-zero, mul-le-mul-right, mod-lt, mod-eq-of-lt, div-eq-of-lt, div-add-mod', div-lt-iff-lt-mul, mul-add-div-right, mul-add-mod-self-right}
+use native.Mathlib.Nat.{one-le-pow, pow-succ', suc-mul, mul-suc, mul-zero, mul-assoc, add-mul, add-zero, mul-le-mul-right, mod-lt, mod-eq-of-lt, div-one, div-eq-of-lt, div-add-mod', div-lt-iff-lt-mul, mul-add-div-right, mul-add-mod-self-right}
 use native.Mathlib.Omega.{arith}
 use lib.ListN.{length, getD, take, drop, length-append, length-drop}
 use lib.Pow.{pow-add}
@@ -91,11 +91,27 @@ number-++ (b ∷ l) r =
     let power : 256 ^ length (l ++ r) ≡ p * q = ap (λ n. 256 ^ n) (length-append l r) ∙ pow-add 256 (length l) (length r) in
     rw (power, number-++ l r) (omega (arith, mul-assoc b p q, add-mul (b * p) (number l) q))
 
+-- the last byte apart
+pub bytes-suc : (w x : ℕ) → x < 256 ^ suc w → bytes (suc w) x ≡ bytes w (x / 256) ++ (x % 256 ∷ [])
+bytes-suc w x h =
+    let l = bytes w (x / 256) ++ (x % 256 ∷ []) in
+    let front : x / 256 < 256 ^ w = omega (arith, pow-succ' 256 w) in
+    let count : length l ≡ suc w = omega (arith, length-append (bytes w (x / 256)) (x % 256 ∷ []), length-bytes w (x / 256)) in
+    let value : number l ≡ x =
+    number-++ (bytes w (x / 256)) (x % 256 ∷ []) ∙ omega (arith, number-bytes w (x / 256) front) in
+    let each : Bytes l = each-++ (each-bytes w (x / 256) front) (cons (omega arith) nil) in
+    subst (λ v. bytes (suc w) v ≡ l) value (subst (λ n. bytes n (number l) ≡ l) count (bytes-number l each))
+
 -- ---- numbers one after the other
 
 pub length-allBytes : (w : ℕ) (xs : List ℕ) → length (allBytes w xs) ≡ w * length xs
 length-allBytes w [] = sym (mul-zero w)
 length-allBytes w (x ∷ xs) = simp (length-append, length-bytes, length-allBytes w xs) (omega (arith, mul-suc w (length xs)))
+
+-- numbers of one byte are the bytes
+pub allBytes-one : (l : List ℕ) → allBytes 1 l ≡ l
+allBytes-one [] = refl
+allBytes-one (x ∷ l) = rw (div-one x, allBytes-one l)
 
 pub each-allBytes : (w : ℕ) (xs : List ℕ) → Each (λ x. x < 256 ^ w) xs → Bytes (allBytes w xs)
 each-allBytes w [] e = nil
@@ -112,7 +128,6 @@ allNumbers-suc w (suc n) l =
     let place : w + w * n ≡ w * suc n = omega (arith, mul-suc w n) in
     rw (allNumbers-suc w n (drop w l), drop-drop (w * n) w l, place)
 
--- numbers of one byte are the bytes
 pub allNumbers-one : (l : List ℕ) → allNumbers 1 (length l) l ≡ l
 allNumbers-one [] = refl
 allNumbers-one (x ∷ l) =

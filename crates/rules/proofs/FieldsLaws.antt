@@ -13,7 +13,7 @@ use borrow.Author.Tests.{ltb-true, leb-true, eqb-true, le-leb, eq-eqb}
 use Rattle.rules.specs.Maps.{all, among}
 use Rattle.rules.specs.Bytes.{bytes, allBytes}
 use Rattle.rules.specs.Fields.{Row, noRow, rowOf, tagsFrom, field, print, lengthOf, fieldFits, fits, firstNumbers, numbers}
-use Rattle.rules.specs.Lawful.{Each, nil, cons, Bytes}
+use Rattle.rules.specs.Lawful.{Each, nil, cons, Bytes, Content, Contents}
 use Rattle.rules.proofs.MapsLaws.{and-left, and-right, and-both}
 use Rattle.rules.proofs.BytesLaws.{each-head, each-tail, each-++, each-take, each-drop, each-bytes, each-allBytes, number-bytes, bytes-number, length-allBytes, length-allNumbers, each-allNumbers, allNumbers-allBytes, allBytes-allNumbers}
 
@@ -77,12 +77,6 @@ pub record IsField (r : Row) (t : ℕ) (l : List ℕ) : Type 0 where
   pub greatest : lengthOf l ≤ r .greatest
   pub whole : lengthOf l % r .width ≡ 0
   pub inside : 3 + lengthOf l ≤ length l
-
--- the numbers v can stand in a field of line r
-pub record Content (r : Row) (v : List ℕ) : Type 0 where
-  pub least : r .least ≤ r .width * length v
-  pub greatest : r .width * length v ≤ r .greatest
-  pub each : Each (λ x. x < 256 ^ r .width) v
 
 module _ (rs : List Row) (t : ℕ) where
   pub is-field : (l : List ℕ) → fieldFits rs t l ≡ true → IsField (rowOf rs t) t l
@@ -187,13 +181,6 @@ module _ (rs : List Row) (u : usable rs ≡ true) (t : ℕ) (l : List ℕ) (b : 
       (split-3 l (f .long)))
 
 -- ---- the fields of any tags
-
--- the numbers vs can stand in fields of the tags ts
-abbrev pub Contents : List Row → List ℕ → List (List ℕ) → Type 0
-Contents rs [] [] = Unit {0}
-Contents rs [] (v ∷ vs) = ⊥
-Contents rs (t ∷ ts) [] = ⊥
-Contents rs (t ∷ ts) (v ∷ vs) = Content (rowOf rs t) v × Contents rs ts vs
 
 module _ (rs : List Row) (u : usable rs ≡ true) where
   abbrev written : ℕ → List ℕ → List ℕ

@@ -56,6 +56,12 @@ pub and-intro : (a b : Bool) → a ≡ true → b ≡ true → a && b ≡ true
 and-intro true b p q = q
 and-intro false b p q = p
 
+-- two tests that hold together
+pub same-test : (x y : Bool) → (x ≡ true → y ≡ true) → (y ≡ true → x ≡ true) → x ≡ y
+same-test true y f g = sym (f refl)
+same-test false true f g = g refl
+same-test false false f g = refl
+
 pub not-true : (t : Bool) → (t ≡ true → ⊥) → t ≡ false
 not-true true h = absurd (h refl)
 not-true false h = refl

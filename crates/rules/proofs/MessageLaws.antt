@@ -11,10 +11,10 @@ use lib.ListN.{length, getD}
 use borrow.Author.Tests.{ltb-true, lt-ltb, eqb-true, eq-eqb}
 use Rattle.rules.specs.Fields.{Row, table, rowOf, tagsOf, print, fits, numbers}
 use Rattle.rules.specs.Message.{Message, Request, Said, message, request, last, edition, kindOf, numbersOf, encode, noZero, inLimits, one, asMessage, asRequest, when, readAs, orElse, decode}
-use Rattle.rules.specs.Lawful.{Each, nil, cons, Bytes, LawfulAck, Lawful}
+use Rattle.rules.specs.Lawful.{Each, nil, cons, Bytes, Content, Contents, LawfulAck, Lawful}
 use Rattle.rules.proofs.MapsLaws.{and-both, and-false, and-intro}
 use Rattle.rules.proofs.BytesLaws.{each-at, each-map}
-use Rattle.rules.proofs.FieldsLaws.{usable, Content, Contents, fits-print, numbers-print, print-numbers, contents-numbers, length-print, each-tagsFrom, each-print}
+use Rattle.rules.proofs.FieldsLaws.{usable, fits-print, numbers-print, print-numbers, contents-numbers, length-print, each-tagsFrom, each-print}
 
 -- ---- the table
 
@@ -53,40 +53,57 @@ lawful-inLimits : (x : Said) → Lawful x → inLimits x ≡ true
 lawful-inLimits (message m) g = message-inLimits m (noZero-ack (g .ack .each)) (g .seq-least) (g .seq-greatest)
 lawful-inLimits (request r) g = request-inLimits r (noZero-ack (g .ack .each)) (g .lseq-least)
 
--- ---- a lawful message can be written
+-- ---- messages whose numbers fit can be written
 
 one-number : {r : Row} {x : ℕ} → (r .least ≤ r .width) × (r .width ≤ r .greatest) × (x < 256 ^ r .width) → Content r (x ∷ [])
 one-number h = record { least = omega arith; greatest = omega arith; each = cons (h .2) nil }
 
-ack-content : {ack : List ℕ} → LawfulAck ack → Content (rowOf table 6) ack
+pub ack-content : (ack : List ℕ) → 2 ≤ length ack → length ack ≤ 8 → Each (λ x. x < 256 ^ 4) ack → Content (rowOf table 6) ack
 unfolding table rowOf
-ack-content a = record { least = omega arith; greatest = omega arith; each = each-map (λ x h. omega arith) (a .each) }
+ack-content ack low high e = record { least = omega arith; greatest = omega arith; each = e }
+
+pub text-content : (text : List ℕ) → length text ≤ 48 → Bytes text → Content (rowOf table 10) text
+unfolding table rowOf
+text-content text high e = record { least = omega arith; greatest = omega arith; each = e }
 
 infixr 20 _&_
 _&_ : {A B : Type 0} → A → B → A × B
 a & b = (a, b)
 
-contents-numbersOf : (x : Said) → Lawful x → Contents table (tagsOf table (kindOf x)) (numbersOf x)
+pub message-contents : (m : Message) → m .cid ≤ last → m .src < 256 → m .seq ≤ last → Content (rowOf table 6) (m .ack) → m .buf < 65536
+    → Content (rowOf table 10) (m .text) → Contents table (tagsOf table 1) (numbersOf (message m))
 unfolding table tagsOf rowOf
+message-contents m cid src seq ack buf text =
+    one-number (omega arith)
+    & one-number (omega arith)
+    & one-number (omega arith)
+    & one-number (omega arith)
+    & one-number (omega arith)
+    & ack
+    & one-number (omega arith)
+    & text
+    & tt
+
+pub request-contents : (r : Request) → r .cid ≤ last → r .src < 256 → Content (rowOf table 6) (r .ack) → r .lsrc < 256 → r .lseq ≤ last
+    → Contents table (tagsOf table 2) (numbersOf (request r))
+unfolding table tagsOf rowOf
+request-contents r cid src ack lsrc lseq =
+    one-number (omega arith)
+    & one-number (omega arith)
+    & one-number (omega arith)
+    & one-number (omega arith)
+    & ack
+    & one-number (omega arith)
+    & one-number (omega arith)
+    & tt
+
+lawful-ack-content : {ack : List ℕ} → LawfulAck ack → Content (rowOf table 6) ack
+lawful-ack-content {ack} a = ack-content ack (a .least) (a .greatest) (each-map (λ x h. omega arith) (a .each))
+
+contents-numbersOf : (x : Said) → Lawful x → Contents table (tagsOf table (kindOf x)) (numbersOf x)
 contents-numbersOf (message m) g =
-    one-number (omega arith)
-    & one-number (omega arith)
-    & one-number (omega arith)
-    & one-number (omega arith)
-    & one-number (omega arith)
-    & ack-content (g .ack)
-    & one-number (omega arith)
-    & record { least = omega arith; greatest = omega arith; each = g .text }
-    & tt
-contents-numbersOf (request r) g =
-    one-number (omega arith)
-    & one-number (omega arith)
-    & one-number (omega arith)
-    & one-number (omega arith)
-    & ack-content (g .ack)
-    & one-number (omega arith)
-    & one-number (omega arith)
-    & tt
+    message-contents m (g .cid) (g .src) (omega arith) (lawful-ack-content (g .ack)) (g .buf) (text-content (m .text) (g .short) (g .text))
+contents-numbersOf (request r) g = request-contents r (g .cid) (g .src) (lawful-ack-content (g .ack)) (g .lsrc) (g .lseq-greatest)
 
 -- ---- and what was written is read
 

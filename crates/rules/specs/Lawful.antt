@@ -1,7 +1,8 @@
--- The messages that a frame can carry: 01's limits on each of their numbers.
+-- The numbers that fields can hold, and the messages that a frame can carry: 01's limits on each of their numbers.
 use mathlib.Core.List.{List, [], _∷_}
-use Prim.Native.Nat.{ℕ, _≤_, _<_}
+use Prim.Native.Nat.{ℕ, _*_, _^_, _≤_, _<_}
 use lib.ListN.{length}
+use Rattle.rules.specs.Fields.{Row, rowOf}
 use Rattle.rules.specs.Message.{Message, Request, Said, message, request, last}
 
 -- P holds of each of the list
@@ -11,6 +12,19 @@ pub data Each (P : ℕ → Type 0) : List ℕ → Type 0 where
 
 abbrev pub Bytes : List ℕ → Type 0
 Bytes l = Each (λ x. x < 256) l
+
+-- the numbers v can stand in a field of line r
+pub record Content (r : Row) (v : List ℕ) : Type 0 where
+  pub least : r .least ≤ r .width * length v
+  pub greatest : r .width * length v ≤ r .greatest
+  pub each : Each (λ x. x < 256 ^ r .width) v
+
+-- the numbers vs can stand in fields of the tags ts
+abbrev pub Contents : List Row → List ℕ → List (List ℕ) → Type 0
+Contents rs [] [] = Unit {0}
+Contents rs [] (v ∷ vs) = ⊥
+Contents rs (t ∷ ts) [] = ⊥
+Contents rs (t ∷ ts) (v ∷ vs) = Content (rowOf rs t) v × Contents rs ts vs
 
 -- n from 2 to 8 numbers of four bytes, never 0
 pub record LawfulAck (ack : List ℕ) : Type 0 where

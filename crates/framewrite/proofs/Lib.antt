@@ -1,0 +1,5 @@
+-- What the writer's proofs share.
+pub mod Digits
+pub mod Laying
+pub mod Rest
+pub mod Answers

@@ -1,5 +1,4 @@
 -- Handing the numbers of a frame out: the stores, and one law for each way out of `co_read_frame`.
-use mathlib.Core.Bool.{true, false, not}
 use mathlib.Core.List.{List, [], _∷_, _++_}
 use mathlib.Core.Logic.{_≢_, ⊎-elim}
 use mathlib.Core.Option.{Option, none, some}
@@ -14,7 +13,7 @@ use Rattle.rules.specs.Calls.{written}
 use Rattle.rules.proofs.BytesLaws.{length-allNumbers}
 use Rattle.rules.proofs.MessageLaws.{Read, decode-read}
 use Rattle.frame.specs.declared.Frame.{Frame}
-use Rattle.frame.specs.Acks.{eight, countAt}
+use Rattle.frame.specs.Acks.{countAt}
 use Rattle.frame.specs.Frame.{frameOf}
 use Rattle.frame.specs.Export.{handed, exported, Exported}
 use Rattle.frame.proofs.Numbers.{length-eight}

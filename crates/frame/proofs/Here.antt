@@ -1,19 +1,18 @@
 -- A field at a place of a frame, in the terms that `field_at` tests: one law for each of its ways out.
-use mathlib.Core.Bool.{true, false, cond, false≢true}
+use mathlib.Core.Bool.{true, false, false≢true}
 use mathlib.Core.List.{List}
 use mathlib.Core.Logic.{_≢_}
-use mathlib.Core.Path.{_≡_, refl, sym, ap, subst, _∙_}
-use Prim.Native.Nat.{ℕ, _+_, _-_, _%_, _≤_, _<_}
+use mathlib.Core.Path.{_≡_, sym, ap, _∙_}
+use Prim.Native.Nat.{ℕ, _+_, _-_, _≤_, _<_}
 use native.Mathlib.Nat.{add-zero}
 use native.Mathlib.Omega.{arith}
-use lib.Dec.{eqb, leb}
 use lib.ListN.{length, getD, take, drop, length-drop}
 use lib.Seq.{getD-drop, drop-drop}
 use borrow.Author.Tests.{leb-true, eqb-true, le-leb, eq-eqb}
 use Rattle.rules.specs.Bytes.{number}
-use Rattle.rules.specs.Fields.{table, rowOf, lengthOf, fieldFits}
-use Rattle.rules.proofs.MapsLaws.{and-both, and-intro, not-true}
-use Rattle.rules.proofs.FieldsLaws.{IsField, is-field, field-is}
+use Rattle.rules.specs.Fields.{table, lengthOf, fieldFits}
+use Rattle.rules.proofs.MapsLaws.{and-both, not-true}
+use Rattle.rules.proofs.FieldsLaws.{is-field, field-is}
 use Rattle.frame.specs.Table.{lengthFits}
 use Rattle.frame.specs.Field.{noField, fieldAt}
 

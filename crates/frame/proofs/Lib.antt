@@ -8,3 +8,4 @@ pub mod Reading
 pub mod Outs
 pub mod Stores
 pub mod Handing
+pub mod Determined

@@ -2,14 +2,14 @@
 use mathlib.Core.Bool.{Bool, true, false, _&&_}
 use mathlib.Core.Logic.{_≢_}
 use mathlib.Core.List.{List, [], _∷_, _++_, append-assoc}
-use mathlib.Core.Path.{_≡_, refl, sym, ap, subst, _∙_}
-use Prim.Native.Nat.{ℕ, zero, suc, _+_, _-_, _*_, _/_, _^_, _≤_, _<_}
+use mathlib.Core.Path.{_≡_, sym, ap, subst, _∙_}
+use Prim.Native.Nat.{ℕ, suc, _+_, _-_, _*_, _/_, _^_, _≤_, _<_}
 use native.Mathlib.Nat.{pow-le-pow-right}
 use native.Mathlib.Omega.{arith}
 use lib.Dec.{ltb}
 use lib.ListN.{length, getD, take, drop, set, replicate, length-append, length-drop, length-replicate}
-use lib.Seq.{take-at, take-suc, getD-drop, getD-take, drop-cons, drop-drop, drop-length, set-append-seam}
-use borrow.Author.Tests.{lt-ltb, le-ltb}
+use lib.Seq.{take-at, take-suc, getD-drop, drop-cons, drop-drop, drop-length, set-append-seam}
+use borrow.Author.Tests.{lt-ltb}
 use Rattle.rules.specs.Bytes.{number, allNumbers}
 use Rattle.rules.specs.Message.{noZero}
 use Rattle.rules.proofs.BytesLaws.{number-++, length-allNumbers, allNumbers-suc}

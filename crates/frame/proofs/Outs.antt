@@ -1,10 +1,10 @@
 -- One law for each way out of the functions that hand a frame back.
 use mathlib.Core.Bool.{true, false, false≢true}
-use mathlib.Core.List.{List, [], _∷_}
+use mathlib.Core.List.{List, []}
 use mathlib.Core.Logic.{_≢_, ⊎-elim}
 use mathlib.Core.Option.{Option, none, some}
 use mathlib.Core.Path.{_≡_, refl, sym, ap, subst, _∙_}
-use Prim.Native.Nat.{ℕ, zero, suc, _+_, _-_, _*_, _≤_, _<_}
+use Prim.Native.Nat.{ℕ, _+_, _-_, _*_, _≤_, _<_}
 use native.Mathlib.Omega.{arith}
 use lib.ListN.{length, getD, take, drop, length-drop}
 use lib.Seq.{take-all}
@@ -17,7 +17,7 @@ use Rattle.frame.specs.declared.Frame.{Frame}
 use Rattle.frame.specs.declared.number.Acks.{Acks}
 use Rattle.frame.specs.Acks.{countAt, acksAt, acksOf, AckFits}
 use Rattle.frame.specs.Frame.{frameOf, payloadOf}
-use Rattle.frame.proofs.Reading.{Seen, not-seen, two-kinds, messageAt, requestAt, message-is, data-at, request-at, is-message, not-message, is-request, not-request}
+use Rattle.frame.proofs.Reading.{Seen, not-seen, messageAt, requestAt, message-is, data-at, request-at, is-message, not-message, is-request, not-request}
 
 -- ---- read_data
 

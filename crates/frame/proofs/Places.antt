@@ -2,13 +2,13 @@
 use mathlib.Core.Bool.{true}
 use mathlib.Core.List.{List, [], _∷_}
 use mathlib.Core.Path.{_≡_, refl, sym, ap, _∙_}
-use Prim.Native.Nat.{ℕ, zero, suc, _+_, _-_, _*_, _/_, _%_, _≤_, _<_}
+use Prim.Native.Nat.{ℕ, _+_, _-_, _*_, _/_, _%_, _≤_}
 use native.Mathlib.Omega.{arith}
-use lib.ListN.{length, getD, take, drop, length-drop}
-use lib.Seq.{drop-drop, drop-cons}
+use lib.ListN.{length, take, drop, length-drop}
+use lib.Seq.{drop-drop}
 use borrow.Author.Tests.{eqb-true}
 use Rattle.rules.specs.Bytes.{number, allNumbers}
-use Rattle.rules.specs.Fields.{table, rowOf, tagsOf, lengthOf, fits, firstNumbers, numbers}
+use Rattle.rules.specs.Fields.{table, rowOf, lengthOf, fits, numbers}
 use Rattle.rules.proofs.MapsLaws.{and-both}
 use Rattle.rules.proofs.FieldsLaws.{is-field}
 use Rattle.frame.specs.Acks.{countAt}

@@ -1,18 +1,17 @@
 -- From bytes that are well formed to what the rules read: byte 3 is the edition, byte 7 the kind.
-use mathlib.Core.Bool.{Bool, true, false, false≢true}
+use mathlib.Core.Bool.{Bool, true}
 use mathlib.Core.List.{List, [], _∷_}
 use mathlib.Core.Logic.{_≢_}
 use mathlib.Core.Option.{Option, none, some}
-use mathlib.Core.Path.{_≡_, refl, sym, ap, subst, _∙_}
+use mathlib.Core.Path.{_≡_, refl, sym, ap, _∙_}
 use Prim.Native.Nat.{ℕ, _+_, _-_, _*_, _≤_, _<_}
 use native.Mathlib.Omega.{arith}
-use lib.Dec.{eqb}
 use lib.ListN.{length, getD, take, drop}
 use lib.Seq.{drop-cons}
 use borrow.Author.Tests.{eqb-true, ne-eqb}
 use Rattle.rules.specs.Bytes.{number, allNumbers}
 use Rattle.rules.specs.Fields.{table, tagsOf, fits, numbers}
-use Rattle.rules.specs.Message.{Message, Request, Said, message, request, last, edition, noZero, inLimits, one, asMessage, asRequest, readAs, orElse, decode}
+use Rattle.rules.specs.Message.{Message, Request, Said, message, request, edition, inLimits, one, asMessage, asRequest, readAs, orElse, decode}
 use Rattle.rules.proofs.MapsLaws.{Eq?, same, other, eq?}
 use Rattle.rules.proofs.MessageLaws.{Read, read-some, read-none}
 use Rattle.frame.specs.Acks.{countAt, acksAt}

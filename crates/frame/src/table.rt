@@ -14,6 +14,7 @@ pub struct Row {
 }
 
 const TABLE: [Row; 10] = [
+    // 1: edition
     Row {
         width: 1,
         least: 1,
@@ -21,6 +22,7 @@ const TABLE: [Row; 10] = [
         message: true,
         request: true,
     },
+    // 2: kind
     Row {
         width: 1,
         least: 1,
@@ -28,6 +30,7 @@ const TABLE: [Row; 10] = [
         message: true,
         request: true,
     },
+    // 3: CID
     Row {
         width: 4,
         least: 4,
@@ -35,6 +38,7 @@ const TABLE: [Row; 10] = [
         message: true,
         request: true,
     },
+    // 4: SRC
     Row {
         width: 1,
         least: 1,
@@ -42,6 +46,7 @@ const TABLE: [Row; 10] = [
         message: true,
         request: true,
     },
+    // 5: SEQ
     Row {
         width: 4,
         least: 4,
@@ -49,6 +54,7 @@ const TABLE: [Row; 10] = [
         message: true,
         request: false,
     },
+    // 6: ACK
     Row {
         width: 4,
         least: 8,
@@ -56,6 +62,7 @@ const TABLE: [Row; 10] = [
         message: true,
         request: true,
     },
+    // 7: BUF
     Row {
         width: 2,
         least: 2,
@@ -63,6 +70,7 @@ const TABLE: [Row; 10] = [
         message: true,
         request: false,
     },
+    // 8: LSRC
     Row {
         width: 1,
         least: 1,
@@ -70,6 +78,7 @@ const TABLE: [Row; 10] = [
         message: false,
         request: true,
     },
+    // 9: LSEQ
     Row {
         width: 4,
         least: 4,
@@ -77,6 +86,7 @@ const TABLE: [Row; 10] = [
         message: false,
         request: true,
     },
+    // 10: data
     Row {
         width: 1,
         least: 0,

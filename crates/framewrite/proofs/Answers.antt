@@ -1,18 +1,17 @@
 -- The checks of the writers, and one law for each of their ways out.
 use mathlib.Core.Bool.{Bool, true, false, false≢true, _&&_}
-use mathlib.Core.List.{List, [], _∷_}
+use mathlib.Core.List.{List, []}
 use mathlib.Core.Path.{_≡_, refl, sym, ap, subst, _∙_}
-use Prim.Native.Nat.{ℕ, suc, _+_, _*_, _/_, _%_, _^_, _≤_, _<_}
+use Prim.Native.Nat.{ℕ, _+_, _*_, _/_, _%_, _≤_, _<_}
 use native.Mathlib.Nat.{mul-mod-right, mod-one}
 use native.Mathlib.Omega.{arith}
 use lib.Dec.{eqb, leb, ltb}
 use lib.ListN.{length}
 use lib.Seq.{sets}
-use borrow.Author.Tests.{leb-true, ltb-true, lt-ltb, le-ltb, le-leb, lt-leb}
+use borrow.Author.Tests.{leb-true, lt-ltb, le-ltb, le-leb}
 use Rattle.rules.specs.Maps.{between}
 use Rattle.rules.specs.Fields.{table, rowOf, tagsOf}
 use Rattle.rules.specs.Message.{Message, Request, message, request, last, encode}
-use Rattle.rules.specs.Calls.{written}
 use Rattle.rules.proofs.MapsLaws.{Lt?, lt, ge, lt?, and-both, same-test, not-true, is-between, between-low, between-high}
 use Rattle.rules.proofs.MessageLaws.{ack-content, text-content, message-contents, request-contents, length-message, length-request}
 use Rattle.frame.specs.declared.table.Row.{Row}
@@ -20,7 +19,7 @@ use Rattle.frame.specs.Table.{lineOf, lengthFits}
 use Rattle.frame.proofs.Stores.{sets-written}
 use Rattle.framewrite.specs.declared.fields.Singles.{Singles}
 use Rattle.framewrite.specs.Fields.{contentOf, fieldsOf, FieldsRoom}
-use Rattle.framewrite.specs.Writing.{dataWritten, requestWritten, messageOf, requestOf, Wrote}
+use Rattle.framewrite.specs.Writing.{dataWritten, requestWritten, Wrote}
 
 -- ---- count_fits
 

@@ -1,7 +1,7 @@
 -- Numbers stored as bytes: one turn of each loop that writes them.
 use mathlib.Core.List.{List, [], _∷_, _++_}
-use mathlib.Core.Path.{_≡_, refl, sym, ap, subst, _∙_}
-use Prim.Native.Nat.{ℕ, zero, suc, _+_, _-_, _*_, _/_, _%_, _^_, _≤_, _<_}
+use mathlib.Core.Path.{_≡_, sym, ap, subst, _∙_}
+use Prim.Native.Nat.{ℕ, suc, _+_, _/_, _%_, _^_, _<_}
 use native.Mathlib.Nat.{pow-succ'}
 use native.Mathlib.Omega.{arith}
 use lib.ListN.{length, getD, drop, set, length-append}

@@ -1,9 +1,9 @@
 -- A field laid down: its front, its content, and the place after it.
-use mathlib.Core.List.{List, [], _∷_, _++_}
+use mathlib.Core.List.{List, _∷_, _++_}
 use mathlib.Core.Path.{_≡_, refl, sym, ap, subst, _∙_}
-use Prim.Native.Nat.{ℕ, suc, _+_, _*_, _^_, _≤_, _<_}
+use Prim.Native.Nat.{ℕ, _+_, _*_, _^_, _≤_, _<_}
 use native.Mathlib.Omega.{arith}
-use lib.ListN.{length, length-append}
+use lib.ListN.{length}
 use lib.Seq.{sets}
 use Rattle.rules.specs.Bytes.{bytes, allBytes}
 use Rattle.rules.specs.Fields.{table, rowOf, field}
@@ -14,7 +14,7 @@ use Rattle.rules.proofs.MessageLaws.{table-usable}
 use Rattle.frame.specs.declared.table.Row.{Row}
 use Rattle.frame.specs.Table.{lineOf}
 use Rattle.frame.proofs.Stores.{sets-++}
-use Rattle.framewrite.specs.Field.{fieldOf, sizeOf, FieldRoom, FieldWritten}
+use Rattle.framewrite.specs.Field.{FieldRoom, FieldWritten}
 
 field-stored : (d d₁ d₂ : List ℕ) (p t n : ℕ) (c : List ℕ) → length c ≡ n → d₁ ≡ sets d p (t ∷ bytes 2 n) → d₂ ≡ sets d₁ (p + 3) c
     → d₂ ≡ sets d p (field t c)

@@ -3,3 +3,5 @@ pub mod Digits
 pub mod Laying
 pub mod Rest
 pub mod Answers
+pub mod Determined
+pub mod RoundTrip

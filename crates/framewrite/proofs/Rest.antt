@@ -1,15 +1,14 @@
 -- The loop over the tags of a kind: what is left to write gives the whole.
-use mathlib.Core.Bool.{Bool, true, false, cond}
-use mathlib.Core.List.{List, [], _∷_, _++_, map}
+use mathlib.Core.Bool.{true, false}
+use mathlib.Core.List.{List, [], _∷_, map}
 use mathlib.Core.Logic.{_≢_}
 use mathlib.Core.Path.{_≡_, refl, sym, ap, subst, _∙_}
-use Prim.Native.Nat.{ℕ, _+_, _*_, _^_, _≤_, _<_}
+use Prim.Native.Nat.{ℕ, _+_, _^_, _≤_, _<_}
 use native.Mathlib.Omega.{arith}
-use lib.ListN.{length, length-append}
+use lib.ListN.{length}
 use lib.Seq.{sets}
-use borrow.Author.Tests.{eq-eqb, ne-eqb}
-use Rattle.rules.specs.Bytes.{allBytes}
-use Rattle.rules.specs.Fields.{table, rowOf, tagsOf, field, print}
+use borrow.Author.Tests.{ne-eqb}
+use Rattle.rules.specs.Fields.{table, rowOf, tagsOf, print}
 use Rattle.rules.specs.Lawful.{Each, Bytes, Contents}
 use Rattle.rules.proofs.BytesLaws.{length-allBytes}
 use Rattle.rules.proofs.FieldsLaws.{tagsLeft, size, length-print}

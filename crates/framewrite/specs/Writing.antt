@@ -19,16 +19,21 @@ writing checks l out =
     decide checks (λ a. record { answer = a; output = out }) (record { answer = 0; output = written out l })
 
 -- n is the count of ACK that the caller names
+abbrev pub dataChecks : ℕ → Message → List ℕ → List Check
+dataChecks n m out =
+    (not (between 2 8 n) ⇒ 5)
+    ∷ (ltb 48 (length (m .text)) ⇒ 13)
+    ∷ (ltb (length out) (37 + 4 * n + length (m .text)) ⇒ 16)
+    ∷ []
+
 unfoldable pub dataWritten : ℕ → Message → List ℕ → Writing
-dataWritten n m out =
-    writing
-    ((not (between 2 8 n) ⇒ 5) ∷ (ltb 48 (length (m .text)) ⇒ 13) ∷ (ltb (length out) (37 + 4 * n + length (m .text)) ⇒ 16) ∷ [])
-    (encode (message m))
-    out
+dataWritten n m out = writing (dataChecks n m out) (encode (message m)) out
+
+abbrev pub requestChecks : ℕ → Request → List ℕ → List Check
+requestChecks n r out = (not (between 2 8 n) ⇒ 5) ∷ (ltb (length out) (33 + 4 * n) ⇒ 16) ∷ []
 
 unfoldable pub requestWritten : ℕ → Request → List ℕ → Writing
-requestWritten n r out =
-    writing ((not (between 2 8 n) ⇒ 5) ∷ (ltb (length out) (33 + 4 * n) ⇒ 16) ∷ []) (encode (request r)) out
+requestWritten n r out = writing (requestChecks n r out) (encode (request r)) out
 
 abbrev pub messageOf : ℕ → ℕ → ℕ → List ℕ → ℕ → List ℕ → Message
 messageOf cid src seq ack buf text = record { cid = cid; src = src; seq = seq; ack = ack; buf = buf; text = text }

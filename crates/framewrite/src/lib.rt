@@ -29,7 +29,7 @@ pub fn write_data(
     if !count_fits(n) {
         return 5;
     }
-    if !frame::table::length_fits(DATA, text.len()) {
+    if !length_fits(DATA, text.len()) {
         return 13;
     }
     if out.len() < 37 + 4 * n + text.len() {

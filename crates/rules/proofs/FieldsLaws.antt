@@ -3,7 +3,7 @@
 use mathlib.Core.Bool.{Bool, true, false, cond, false≢true, _&&_}
 use mathlib.Core.List.{List, [], _∷_, _++_, append-assoc}
 use mathlib.Core.Path.{_≡_, refl, sym, ap, ap₂, _∙_, subst}
-use Prim.Native.Nat.{ℕ, zero, suc, _+_, _-_, _*_, _/_, _%_, _^_, _≤_, _<_}
+use Prim.Native.Nat.{ℕ, zero, suc, _+_, _-_, _*_, _/_, _%_, _≤_, _<_}
 use native.Mathlib.Nat.{mul-div-right, mul-mod-right, div-add-mod}
 use native.Mathlib.Omega.{arith}
 use lib.Dec.{ltb, eqb·suc-zero}
@@ -13,7 +13,7 @@ use borrow.Author.Tests.{ltb-true, leb-true, eqb-true, le-leb, eq-eqb}
 use Rattle.rules.specs.Maps.{all, among}
 use Rattle.rules.specs.Bytes.{bytes, allBytes}
 use Rattle.rules.specs.Fields.{Row, noRow, rowOf, tagsFrom, field, print, lengthOf, fieldFits, fits, firstNumbers, numbers}
-use Rattle.rules.specs.Lawful.{Each, nil, cons, Bytes, Content, Contents}
+use Rattle.rules.specs.Lawful.{nil, cons, Bytes, Content, Contents}
 use Rattle.rules.proofs.MapsLaws.{and-left, and-right, and-both}
 use Rattle.rules.proofs.BytesLaws.{each-head, each-tail, each-++, each-take, each-drop, each-bytes, each-allBytes, number-bytes, bytes-number, length-allBytes, length-allNumbers, each-allNumbers, allNumbers-allBytes, allBytes-allNumbers}
 

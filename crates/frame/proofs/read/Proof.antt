@@ -1,3 +1,4 @@
+-- `read` meets its contract.
 use borrow.Author.Needs.{needs}
 use native.Mathlib.Omega.{arith}
 use mathlib.Core.Bool.{false≢true}
@@ -5,61 +6,44 @@ use mathlib.Core.Path.{sym, ap, _∙_}
 use denote.Ref.{now}
 use borrow.Author.Tests.{not-true, not-false}
 use Rattle.frame.proofs.Outs.{not-a-frame}
-use Rattle.frame.proofs.Reading.{Seen, two-kinds}
+use Rattle.frame.proofs.Reading.{two-kinds}
 use Rattle.rules.specs.Fields.{table, tagsOf, fits}
 use Rattle.frame.proofs.read.Statement.{statement}
 use Rattle.frame.proofs.read.Tie as tie
-use Rattle.frame.proofs.read.Reads as reads
-use Rattle.frame.proofs.read.Lts as lts
-use Rattle.frame.proofs.field.well_formed.Reads as well-formed-reads
-use Rattle.frame.proofs.kind.read_data.Reads as read-data-reads
-use Rattle.frame.proofs.kind.read_request.Reads as read-request-reads
-use Rattle.frame.proofs.kind.refused.Reads as refused-reads
 
--- src/lib.rt:36:9
 refused-requires : tie.Need-refused-requires
 refused-requires c κs = search needs
 
--- src/lib.rt:36:9
 returns : tie.Need-returns
 returns c = c .refused .ensures ∙ not-a-frame (now (c .before .before .before .args .s)) (λ s. omega arith)
 
--- src/lib.rt:38:16
 shared-slice-read-kind : tie.Need-shared-slice-read-kind
 shared-slice-read-kind c = search needs
 
--- src/lib.rt:39:9
 well-formed-requires : tie.Need-well-formed-requires
 well-formed-requires c κs = search needs
 
--- src/lib.rt:40:9
 refused-requires-2 : tie.Need-refused-requires-2
 refused-requires-2 c κs = search needs
 
--- src/lib.rt:40:9
 returns-2 : tie.Need-returns-2
 returns-2 c = c .refused2 .ensures ∙ not-a-frame _ (λ s. false≢true (sym (not-true _ (c .before .if2 .taken)) ∙ c .before .before .well-formed .ensures ∙ s .fit))
 
--- src/lib.rt:42:8
 shared-slice-read-if3 : tie.Need-shared-slice-read-if3
 shared-slice-read-if3 c = search needs
 
--- src/lib.rt:43:9
 refused-requires-3 : tie.Need-refused-requires-3
 refused-requires-3 c κs = search needs
 
--- src/lib.rt:43:9
 returns-3 : tie.Need-returns-3
 returns-3 c = c .refused3 .ensures ∙ not-a-frame _ (λ s. c .before .if3 .taken (s .edition-is))
 
--- src/lib.rt:46:9
 read-data-requires : tie.Need-read-data-requires
 read-data-requires c κs =
     let l = now (c .before .before .before .before .before .before .before .before .args .s) in
     let fit = sym (c .before .before .before .before .well-formed .ensures) ∙ not-false _ (c .before .before .before .if2 .left) in
     (ap (λ k. fits table (tagsOf table k) l) (sym (c .if4 .taken)) ∙ fit, c .before .if3 .left, c .if4 .taken)
 
--- src/lib.rt:48:9
 read-request-requires : tie.Need-read-request-requires
 read-request-requires c κs =
     let l = now (c .before .before .before .before .before .before .before .before .args .s) in
@@ -67,11 +51,9 @@ read-request-requires c κs =
     let two = two-kinds l _ (c .before .before .before .before .before .before .if1 .left) fit (c .if4 .left) in
     (ap (λ k. fits table (tagsOf table k) l) (sym two) ∙ fit, c .before .if3 .left, two)
 
--- src/lib.rt:32:1
 returns-4 : tie.Need-returns-4
 returns-4 c = search needs
 
--- src/lib.rt:32:1
 returns-5 : tie.Need-returns-5
 returns-5 c = search needs
 

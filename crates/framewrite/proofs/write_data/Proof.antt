@@ -1,7 +1,8 @@
+-- `write_data` meets its contract: one law of `Answers` for each way out.
 use borrow.Author.Needs.{needs}
 use native.Mathlib.Omega.{arith}
-use Prim.Native.Nat.{_≤_, _+_, _*_}
-use mathlib.Core.Bool.{true, false}
+use Prim.Native.Nat.{_≤_}
+use mathlib.Core.Bool.{true}
 use mathlib.Core.Path.{_≡_, sym, ap, _∙_}
 use lib.ListN.{length, take}
 use lib.Seq.{sets, length-take-le}
@@ -9,16 +10,11 @@ use denote.Ref.{now}
 use borrow.Author.Tests.{not-true, not-false}
 use Rattle.frame.specs.Table.{lengthFits}
 use Rattle.framewrite.proofs.Answers.{text-within, data-5, data-13, data-16, data-0, data-fields, data-room}
-use Rattle.framewrite.specs.Writing.{messageOf, requestOf}
+use Rattle.framewrite.specs.Writing.{messageOf}
 use Rattle.rules.proofs.MapsLaws.{between-high}
 use Rattle.rules.specs.Maps.{between}
 use Rattle.framewrite.proofs.write_data.Statement.{statement}
 use Rattle.framewrite.proofs.write_data.Tie as tie
-use Rattle.framewrite.proofs.write_data.Reads as reads
-use Rattle.framewrite.proofs.write_data.Lts as lts
-use Rattle.frame.proofs.table.length_fits.Reads as length-fits-reads
-use Rattle.framewrite.proofs.field.count_fits.Reads as count-fits-reads
-use Rattle.framewrite.proofs.fields.put_fields.Reads as put-fields-reads
 
 counted : (c : tie.Else1) → between 2 8 (c .before .before .before .before .before .args .n) ≡ true
 counted c = sym (c .before .count-fits .ensures) ∙ not-false _ (c .if1 .left)
@@ -37,43 +33,33 @@ fitting c = sym (c .before .length-fits .ensures) ∙ not-false _ (c .if2 .left)
 short : (c : tie.Else2) → length (now (c .before .before .before .before .before .before .before .args .text)) ≤ 48
 short c = text-within _ (fitting c)
 
--- src/lib.rt:18:9
 count-fits-requires : tie.Need-count-fits-requires
 count-fits-requires c κs = search needs
 
--- src/lib.rt:19:9
 returns : tie.Need-returns
 returns c = data-5 _ _ _ (sym (c .before .count-fits .ensures) ∙ not-true _ (c .if1 .taken))
 
--- src/lib.rt:21:9
 length-fits-requires : tie.Need-length-fits-requires
 length-fits-requires c κs = search needs
 
--- src/lib.rt:22:9
 returns-2 : tie.Need-returns-2
 returns-2 c = data-13 _ _ _ (counted (c .before .before)) (sym (c .before .length-fits .ensures) ∙ not-true _ (c .if2 .taken))
 
--- src/lib.rt:24:25
 mul-if3 : tie.Need-mul-if3
 mul-if3 c = omega (arith, few (c .before .before))
 
--- src/lib.rt:24:20
 add-if3 : tie.Need-add-if3
 add-if3 c = omega (arith, few (c .before .before))
 
--- src/lib.rt:24:20
 add-if3-2 : tie.Need-add-if3-2
 add-if3-2 c = omega (arith, few (c .before .before), short c)
 
--- src/lib.rt:25:9
 returns-3 : tie.Need-returns-3
 returns-3 c = data-16 _ _ _ (counted (c .before .before .before)) (fitting (c .before)) (c .if3 .taken)
 
--- src/lib.rt:28:24
 slice-aggregate-put-fields : tie.Need-slice-aggregate-put-fields
 slice-aggregate-put-fields c = sym (count (c .before .before .before .before .before))
 
--- src/lib.rt:28:5
 put-fields-requires : tie.Need-put-fields-requires
 put-fields-requires c κs =
     let a = c .before .before .before .before .before .before .before .before .before .before .args in
@@ -82,11 +68,9 @@ put-fields-requires c κs =
     data-room (a .n) (counted (c .before .before .before .before .before)) (now (a .out)) m (count (c .before .before .before .before .before)) (omega (arith, f .cid)) (omega (arith, f .src)) (omega (arith, f .seq)) (omega (arith, f .buf))
     (short (c .before .before .before)) (c .before .before .if3 .left)
 
--- src/lib.rt:14:1
 same-length : tie.Need-same-length
 same-length c = search needs
 
--- src/lib.rt:14:1
 returns-4 : tie.Need-returns-4
 returns-4 c =
     let a = c .before .before .before .before .before .before .before .before .before .before .before .before .before .args in

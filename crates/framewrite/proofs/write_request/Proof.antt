@@ -1,7 +1,8 @@
+-- `write_request` meets its contract: one law of `Answers` for each way out.
 use borrow.Author.Needs.{needs}
 use native.Mathlib.Omega.{arith}
-use Prim.Native.Nat.{_≤_, _+_, _*_}
-use mathlib.Core.Bool.{true, false}
+use Prim.Native.Nat.{_≤_}
+use mathlib.Core.Bool.{true}
 use mathlib.Core.Path.{_≡_, sym, ap, _∙_}
 use lib.ListN.{length, take}
 use lib.Seq.{sets, length-take-le}
@@ -13,10 +14,6 @@ use Rattle.rules.proofs.MapsLaws.{between-high}
 use Rattle.rules.specs.Maps.{between}
 use Rattle.framewrite.proofs.write_request.Statement.{statement}
 use Rattle.framewrite.proofs.write_request.Tie as tie
-use Rattle.framewrite.proofs.write_request.Reads as reads
-use Rattle.framewrite.proofs.write_request.Lts as lts
-use Rattle.framewrite.proofs.field.count_fits.Reads as count-fits-reads
-use Rattle.framewrite.proofs.fields.put_fields.Reads as put-fields-reads
 
 counted : (c : tie.Else1) → between 2 8 (c .before .before .before .before .args .n) ≡ true
 counted c = sym (c .before .count-fits .ensures) ∙ not-false _ (c .if1 .left)
@@ -29,35 +26,27 @@ count c =
     let a = c .before .before .before .before .args in
     length-take-le (a .n) (now (a .ack)) (omega (arith, few c, c .before .before .all .given .0))
 
--- src/lib.rt:37:9
 count-fits-requires : tie.Need-count-fits-requires
 count-fits-requires c κs = search needs
 
--- src/lib.rt:38:9
 returns : tie.Need-returns
 returns c = request-5 _ _ _ (sym (c .before .count-fits .ensures) ∙ not-true _ (c .if1 .taken))
 
--- src/lib.rt:40:25
 mul-if2 : tie.Need-mul-if2
 mul-if2 c = omega (arith, few c)
 
--- src/lib.rt:40:20
 add-if2 : tie.Need-add-if2
 add-if2 c = omega (arith, few c)
 
--- src/lib.rt:41:9
 returns-2 : tie.Need-returns-2
 returns-2 c = request-16 _ _ _ (counted (c .before)) (c .if2 .taken)
 
--- src/lib.rt:44:24
 slice-aggregate-put-fields : tie.Need-slice-aggregate-put-fields
 slice-aggregate-put-fields c = sym (count (c .before .before .before))
 
--- src/lib.rt:44:35
 slice-aggregate-put-fields-2 : tie.Need-slice-aggregate-put-fields-2
 slice-aggregate-put-fields-2 c = search needs
 
--- src/lib.rt:44:5
 put-fields-requires : tie.Need-put-fields-requires
 put-fields-requires c κs =
     let a = c .before .before .before .before .before .before .before .before .args in
@@ -65,11 +54,9 @@ put-fields-requires c κs =
     request-room (a .n) (counted (c .before .before .before .before)) (now (a .out)) (requestOf (a .cid) (a .src) (take (a .n) (now (a .ack))) (a .lsrc) (a .lseq)) (count (c .before .before .before .before)) (omega (arith, f .cid)) (omega (arith, f .src)) (omega (arith, f .lsrc)) (omega (arith, f .lseq))
     (c .before .before .before .if2 .left)
 
--- src/lib.rt:33:1
 same-length : tie.Need-same-length
 same-length c = search needs
 
--- src/lib.rt:33:1
 returns-3 : tie.Need-returns-3
 returns-3 c =
     let a = c .before .before .before .before .before .before .before .before .before .before .before .args in

@@ -1,63 +1,47 @@
+-- `hand_out` meets its contract.
 use borrow.Author.Needs.{needs}
 use native.Mathlib.Omega.{arith}
 use denote.Ref.{now}
 use Rattle.frame.proofs.Handing.{hands-out}
 use Rattle.frame.proofs.export.hand_out.Statement.{statement}
 use Rattle.frame.proofs.export.hand_out.Tie as tie
-use Rattle.frame.proofs.export.hand_out.Reads as reads
-use Rattle.frame.proofs.export.hand_out.Lts as lts
-use Rattle.frame.proofs.export.put_five.Reads as put-five-reads
-use Rattle.frame.proofs.export.put_numbers.Reads as put-numbers-reads
 
--- src/export.rt:41:22
 cast-put-five : tie.Need-cast-put-five
 cast-put-five c = search needs
 
--- src/export.rt:41:37
 cast-put-five-2 : tie.Need-cast-put-five-2
 cast-put-five-2 c = search needs
 
--- src/export.rt:41:51
 cast-put-five-3 : tie.Need-cast-put-five-3
 cast-put-five-3 c = search needs
 
--- src/export.rt:41:65
 cast-put-five-4 : tie.Need-cast-put-five-4
 cast-put-five-4 c = search needs
 
--- src/export.rt:41:5
 put-five-requires : tie.Need-put-five-requires
 put-five-requires c κs = search needs
 
--- src/export.rt:43:25
 slice-aggregate-put-numbers : tie.Need-slice-aggregate-put-numbers
 slice-aggregate-put-numbers c = search needs
 
--- src/export.rt:43:5
 put-numbers-requires : tie.Need-put-numbers-requires
 put-numbers-requires c κs = search needs
 
--- src/export.rt:44:23
 cast-put-five-5 : tie.Need-cast-put-five-5
 cast-put-five-5 c = search needs
 
--- src/export.rt:44:37
 cast-put-five-6 : tie.Need-cast-put-five-6
 cast-put-five-6 c = search needs
 
--- src/export.rt:44:52
 cast-put-five-7 : tie.Need-cast-put-five-7
 cast-put-five-7 c = search needs
 
--- src/export.rt:44:5
 put-five-requires-2 : tie.Need-put-five-requires-2
 put-five-requires-2 c κs = omega (arith, c .before .before .before .before .before .before .put-numbers .kept .0, c .before .before .before .before .before .before .before .before .before .before .before .before .put-five .kept .0, c .before .before .before .before .before .before .before .before .before .before .before .before .before .before .before .before .before .before .before .pre)
 
--- src/export.rt:37:1
 same-length : tie.Need-same-length
 same-length c = search needs
 
--- src/export.rt:37:1
 returns : tie.Need-returns
 returns c =
     let a = c .before .before .before .before .before .before .before .before .before .before .before .before .before .before .before .before .before .before .before .before .before .before .args in

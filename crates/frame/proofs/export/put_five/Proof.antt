@@ -1,73 +1,56 @@
+-- `put_five` meets its contract.
 use borrow.Author.Needs.{needs}
 use native.Mathlib.Omega.{arith}
 use native.Mathlib.Numerals.{towards-suc}
 use lib.ListN.{length-set}
 use Rattle.frame.proofs.export.put_five.Statement.{statement}
 use Rattle.frame.proofs.export.put_five.Tie as tie
-use Rattle.frame.proofs.export.put_five.Reads as reads
-use Rattle.frame.proofs.export.put_five.Lts as lts
 
--- src/export.rt:29:5
 mul-out : tie.Need-mul-out
 mul-out c = search needs
 
--- src/export.rt:29:5
 slice-write-out : tie.Need-slice-write-out
 slice-write-out c = search needs
 
--- src/export.rt:30:9
 add-out : tie.Need-add-out
 add-out c = search needs
 
--- src/export.rt:30:5
 mul-out-2 : tie.Need-mul-out-2
 mul-out-2 c = search needs
 
--- src/export.rt:30:5
 slice-write-out-2 : tie.Need-slice-write-out-2
 slice-write-out-2 c = simp length-set (omega arith)
 
--- src/export.rt:31:9
 add-out-2 : tie.Need-add-out-2
 add-out-2 c = search needs
 
--- src/export.rt:31:5
 mul-out-3 : tie.Need-mul-out-3
 mul-out-3 c = search needs
 
--- src/export.rt:31:5
 slice-write-out-3 : tie.Need-slice-write-out-3
 slice-write-out-3 c = simp length-set (omega arith)
 
--- src/export.rt:32:9
 add-out-3 : tie.Need-add-out-3
 add-out-3 c = search needs
 
--- src/export.rt:32:5
 mul-out-4 : tie.Need-mul-out-4
 mul-out-4 c = search needs
 
--- src/export.rt:32:5
 slice-write-out-4 : tie.Need-slice-write-out-4
 slice-write-out-4 c = simp length-set (omega arith)
 
--- src/export.rt:33:9
 add-out-4 : tie.Need-add-out-4
 add-out-4 c = search needs
 
--- src/export.rt:33:5
 mul-out-5 : tie.Need-mul-out-5
 mul-out-5 c = search needs
 
--- src/export.rt:33:5
 slice-write-out-5 : tie.Need-slice-write-out-5
 slice-write-out-5 c = simp length-set (omega arith)
 
--- src/export.rt:25:1
 same-length : tie.Need-same-length
 same-length c = search needs
 
--- src/export.rt:25:1
 returns : tie.Need-returns
 returns c = simp towards-suc
 

@@ -1,7 +1,7 @@
+-- `put_numbers` meets its contract. The invariant: storing what is left gives the whole.
 use borrow.Author.Needs.{needs}
 use native.Mathlib.Omega.{arith}
 use Prim.Native.Nat.{_+_, _-_, _≤_}
-use mathlib.Core.List.{List}
 use native.Mathlib.Nat.{add-zero}
 use mathlib.Core.Path.{_≡_, refl, _∙_}
 use lib.ListN.{length, drop, length-set}
@@ -10,8 +10,6 @@ use denote.Ref.{now}
 use Rattle.frame.proofs.Stores.{store-one, store-none}
 use Rattle.frame.proofs.export.put_numbers.Statement.{statement}
 use Rattle.frame.proofs.export.put_numbers.Tie as tie
-use Rattle.frame.proofs.export.put_numbers.Reads as reads
-use Rattle.frame.proofs.export.put_numbers.Lts as lts
 
 abbrev Inv-loop : tie.InvT-loop
 Inv-loop out₀ at a i₀ out i = (i ≤ length a) × ((length out ≡ length out₀) × (sets out (at + i) (drop i a) ≡ sets out₀ at a))
@@ -19,53 +17,41 @@ Inv-loop out₀ at a i₀ out i = (i ≤ length a) × ((length out ≡ length ou
 abbrev μ-loop : tie.MeasureT-loop
 μ-loop out₀ at a i₀ out i = length a - i
 
--- src/export.rt:17:5
 loop-holds : tie.Need-loop-holds Inv-loop μ-loop
 loop-holds c = (omega arith, (refl, rw add-zero))
 
--- src/export.rt:18:23
 mul-out : tie.Need-mul-out Inv-loop μ-loop
 mul-out c = search needs
 
--- src/export.rt:18:23
 shared-slice-read-out : tie.Need-shared-slice-read-out Inv-loop μ-loop
 shared-slice-read-out c = search needs
 
--- src/export.rt:18:23
 cast-out : tie.Need-cast-out Inv-loop μ-loop
 cast-out c = omega (arith, c .shared-slice-known .given (c .before .before .loop .i))
 
--- src/export.rt:18:13
 add-out : tie.Need-add-out Inv-loop μ-loop
 add-out c = search needs
 
--- src/export.rt:18:9
 mul-out-2 : tie.Need-mul-out-2 Inv-loop μ-loop
 mul-out-2 c = search needs
 
--- src/export.rt:18:9
 slice-write-out : tie.Need-slice-write-out Inv-loop μ-loop
 slice-write-out c = search needs
 
--- src/export.rt:19:9
 add-i : tie.Need-add-i Inv-loop μ-loop
 add-i c = search needs
 
--- src/export.rt:17:5
 loop-less : tie.Need-loop-less Inv-loop μ-loop
 loop-less c = search needs
 
--- src/export.rt:17:5
 loop-again : tie.Need-loop-again Inv-loop μ-loop
 loop-again c =
     let l = c .before .before .loop in
     (omega arith, (simp length-set (l .inv .1 .0), store-one _ _ _ _ (c .before .loop-test .taken) ∙ l .inv .1 .1))
 
--- src/export.rt:12:1
 same-length : tie.Need-same-length Inv-loop μ-loop
 same-length c = c .before .loop .inv .1 .0
 
--- src/export.rt:12:1
 returns : tie.Need-returns Inv-loop μ-loop
 returns c =
     let l = c .before .loop in

@@ -1,3 +1,4 @@
+-- `field_at` meets its contract: one law of `Here` for each way out.
 use borrow.Author.Needs.{needs}
 use native.Mathlib.Omega.{arith}
 use mathlib.Core.Path.{sym, _∙_}
@@ -5,79 +6,58 @@ use borrow.Author.Tests.{not-true, not-false}
 use Rattle.frame.proofs.Here.{short-slice, past-end, other-tag, other-length, cut, a-field}
 use Rattle.frame.proofs.field.field_at.Statement.{statement}
 use Rattle.frame.proofs.field.field_at.Tie as tie
-use Rattle.frame.proofs.field.field_at.Reads as reads
-use Rattle.frame.proofs.field.field_at.Lts as lts
-use Rattle.frame.proofs.number.number_at.Reads as number-at-reads
-use Rattle.frame.proofs.table.length_fits.Reads as length-fits-reads
 
--- src/field.rt:22:9
 returns : tie.Need-returns
 returns c = short-slice _ _ _ (c .if1 .taken)
 
--- src/field.rt:24:8
 sub-if2 : tie.Need-sub-if2
 sub-if2 c = search needs
 
--- src/field.rt:25:9
 returns-2 : tie.Need-returns-2
 returns-2 c = past-end _ _ _ (c .if2 .taken)
 
--- src/field.rt:27:8
 shared-slice-read-if3 : tie.Need-shared-slice-read-if3
 shared-slice-read-if3 c = search needs
 
--- src/field.rt:28:9
 returns-3 : tie.Need-returns-3
-returns-3 c = other-tag _ _ _ (c .if3 .taken)
+returns-3 c = other-tag _ _ _ (λ e. omega arith)
 
--- src/field.rt:30:26
 add-number-at : tie.Need-add-number-at
 add-number-at c = search needs
 
--- src/field.rt:30:13
 number-at-requires : tie.Need-number-at-requires
 number-at-requires c κs = search needs
 
--- src/field.rt:30:13
 cast-n : tie.Need-cast-n
 cast-n c = search needs
 
--- src/field.rt:31:9
 length-fits-requires : tie.Need-length-fits-requires
 length-fits-requires c κs = search needs
 
--- src/field.rt:32:9
 returns-4 : tie.Need-returns-4
 returns-4 c = other-length _ _ _ _ (c .before .before .number-at .ensures) (sym (c .before .length-fits .ensures) ∙ not-true _ (c .if4 .taken))
 
--- src/field.rt:34:19
 add-if5 : tie.Need-add-if5
 add-if5 c = search needs
 
--- src/field.rt:34:8
 sub-if5 : tie.Need-sub-if5
 sub-if5 c = search needs
 
--- src/field.rt:35:9
 returns-5 : tie.Need-returns-5
 returns-5 c = cut _ _ _ _ (c .before .before .before .number-at .ensures) (c .before .before .before .before .before .before .before .if1 .left) (c .before .before .before .before .before .before .if2 .left) (c .if5 .taken)
 
--- src/field.rt:37:30
 add-t6 : tie.Need-add-t6
 add-t6 c = search needs
 
--- src/field.rt:37:43
 add-t8 : tie.Need-add-t8
 add-t8 c = search needs
 
--- src/field.rt:37:43
 add-t13 : tie.Need-add-t13
 add-t13 c = search needs
 
--- src/field.rt:17:1
 returns-6 : tie.Need-returns-6
 returns-6 c =
-    a-field _ _ _ _ (c .before .before .before .number-at .ensures) (c .before .before .before .before .before .before .before .if1 .left) (c .before .before .before .before .before .before .if2 .left) (c .before .before .before .before .if3 .left)
+    a-field _ _ _ _ (c .before .before .before .number-at .ensures) (c .before .before .before .before .before .before .before .if1 .left) (c .before .before .before .before .before .before .if2 .left) (omega arith)
     (sym (c .before .before .length-fits .ensures) ∙ not-false _ (c .before .if4 .left)) (c .if5 .left)
 
 pub field-at-spec : {M : Type 1} → statement M

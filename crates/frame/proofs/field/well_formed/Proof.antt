@@ -1,3 +1,4 @@
+-- `well_formed` meets its contract. The invariant: the test of the tags left, from `at` on, is the whole test.
 use borrow.Author.Needs.{needs}
 use native.Mathlib.Omega.{arith}
 use Prim.Native.Nat.{ℕ, _+_, _-_, _≤_}
@@ -11,10 +12,6 @@ use Rattle.rules.proofs.FieldsLaws.{tagsLeft}
 use Rattle.rules.specs.Fields.{table, tagsOf, fits}
 use Rattle.frame.proofs.field.well_formed.Statement.{statement}
 use Rattle.frame.proofs.field.well_formed.Tie as tie
-use Rattle.frame.proofs.field.well_formed.Reads as reads
-use Rattle.frame.proofs.field.well_formed.Lts as lts
-use Rattle.frame.proofs.field.next_field.Reads as next-field-reads
-use Rattle.frame.proofs.table.has_tag.Reads as has-tag-reads
 
 abbrev Inv-loop : tie.InvT-loop
 Inv-loop s kind at₀ tag₀ at tag = (1 ≤ tag) × ((tag ≤ 11) × ((at ≤ length s) × (fits table (tagsLeft table tag kind) (drop at s) ≡ fits table (tagsOf table kind) s)))
@@ -22,20 +19,16 @@ Inv-loop s kind at₀ tag₀ at tag = (1 ≤ tag) × ((tag ≤ 11) × ((at ≤ l
 abbrev μ-loop : tie.MeasureT-loop
 μ-loop s kind at₀ tag₀ at tag = 11 - tag
 
--- src/field.rt:53:5
 loop-holds : tie.Need-loop-holds Inv-loop μ-loop
 unfolding tagsOf
 loop-holds c = (omega arith, (omega arith, (omega arith, refl)))
 
--- src/field.rt:54:12
 has-tag-requires : tie.Need-has-tag-requires Inv-loop μ-loop
 has-tag-requires c κs = search needs
 
--- src/field.rt:55:17
 next-field-requires : tie.Need-next-field-requires Inv-loop μ-loop
 next-field-requires c κs = search needs
 
--- src/field.rt:58:17
 returns : tie.Need-returns Inv-loop μ-loop
 returns c =
     let i = c .before .before .before .before .before .loop .inv in
@@ -44,15 +37,12 @@ returns c =
     (not-true _ (c .if2 .taken)))
     ∙ i .1 .1 .1
 
--- src/field.rt:62:9
 add-tag : tie.Need-add-tag Inv-loop μ-loop
 add-tag c = search needs
 
--- src/field.rt:53:5
 loop-less : tie.Need-loop-less Inv-loop μ-loop
 loop-less c = search needs
 
--- src/field.rt:53:5
 loop-again : tie.Need-loop-again Inv-loop μ-loop
 loop-again c =
     let l = c .before .before .before .loop in
@@ -73,7 +63,6 @@ loop-again c =
     (c .if1 .came) in
     (omega arith, (omega arith, next))
 
--- src/field.rt:48:1
 returns-2 : tie.Need-returns-2 Inv-loop μ-loop
 returns-2 c =
     let l = c .before .loop in

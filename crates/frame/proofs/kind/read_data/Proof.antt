@@ -1,93 +1,72 @@
+-- `read_data` meets its contract: one law of `Outs` for each way out.
 use borrow.Author.Needs.{needs}
 use native.Mathlib.Omega.{arith}
 use Prim.Native.Nat.{_+_, _*_, _≤_}
-use mathlib.Core.Path.{sym, _∙_}
+use mathlib.Core.Path.{_∙_}
 use lib.ListN.{length}
 use denote.Ref.{now}
 use borrow.Author.Tests.{not-true, not-false}
 use Rattle.frame.proofs.Outs.{data-acks, data-room, zero-ack, seq-out, a-message}
 use Rattle.frame.proofs.kind.read_data.Statement.{statement}
 use Rattle.frame.proofs.kind.read_data.Tie as tie
-use Rattle.frame.proofs.kind.read_data.Reads as reads
-use Rattle.frame.proofs.kind.read_data.Lts as lts
-use Rattle.frame.proofs.kind.refused.Reads as refused-reads
-use Rattle.frame.proofs.number.ack_field.Reads as ack-field-reads
-use Rattle.frame.proofs.number.number_at.Reads as number-at-reads
 
 room : (c : tie.After-ack-field) → 37 + 4 * c .ack-field .result .n ≤ length (now (c .before .before .args .s))
 room c = data-room _ (c .before .before .pre .0) _ (c .ack-field .ensures)
 
--- src/kind.rt:41:9
 ack-field-requires : tie.Need-ack-field-requires
 ack-field-requires c κs = data-acks _ (c .before .pre .0)
 
--- src/kind.rt:45:9
 refused-requires : tie.Need-refused-requires
 refused-requires c κs = search needs
 
--- src/kind.rt:45:9
 returns : tie.Need-returns
 returns c =
     let pre = c .before .before .before .before .before .before .pre in
     c .refused .ensures ∙ zero-ack _ (pre .0) (pre .1) (pre .2) _ (c .before .before .before .before .ack-field .ensures) (not-true _ (c .before .if1 .taken))
 
--- src/kind.rt:47:9
 number-at-requires : tie.Need-number-at-requires
 number-at-requires c κs = omega (arith, room (c .before .before .before))
 
--- src/kind.rt:49:9
 refused-requires-2 : tie.Need-refused-requires-2
 refused-requires-2 c κs = search needs
 
--- src/kind.rt:49:9
 returns-2 : tie.Need-returns-2
 returns-2 c =
     let pre = c .before .before .before .before .before .before .before .before .pre in
     c .refused2 .ensures ∙ seq-out _ (pre .0) (pre .1) (pre .2) _ (c .before .before .before .before .before .before .ack-field .ensures) _ (c .before .before .number-at .ensures) (λ low high. omega arith)
 
--- src/kind.rt:52:9
 refused-requires-3 : tie.Need-refused-requires-3
 refused-requires-3 c κs = search needs
 
--- src/kind.rt:52:9
 returns-3 : tie.Need-returns-3
 returns-3 c =
     let pre = c .before .before .before .before .before .before .before .before .before .pre in
     c .refused3 .ensures ∙ seq-out _ (pre .0) (pre .1) (pre .2) _ (c .before .before .before .before .before .before .before .ack-field .ensures) _ (c .before .before .before .number-at .ensures) (λ low high. omega arith)
 
--- src/kind.rt:54:22
 mul-start : tie.Need-mul-start
 mul-start c = omega (arith, room (c .before .before .before .before .before .before))
 
--- src/kind.rt:54:17
 add-start : tie.Need-add-start
 add-start c = omega (arith, room (c .before .before .before .before .before .before))
 
--- src/kind.rt:58:14
 number-at-requires-2 : tie.Need-number-at-requires-2
 number-at-requires-2 c κs = omega (arith, room (c .before .before .before .before .before .before))
 
--- src/kind.rt:59:14
 number-at-requires-3 : tie.Need-number-at-requires-3
 number-at-requires-3 c κs = omega (arith, room (c .before .before .before .before .before .before .before))
 
--- src/kind.rt:63:32
 mul-number-at : tie.Need-mul-number-at
 mul-number-at c = omega (arith, room (c .before .before .before .before .before .before .before .before))
 
--- src/kind.rt:63:27
 add-number-at : tie.Need-add-number-at
 add-number-at c = omega (arith, room (c .before .before .before .before .before .before .before .before))
 
--- src/kind.rt:63:14
 number-at-requires-4 : tie.Need-number-at-requires-4
 number-at-requires-4 c κs = omega (arith, room (c .before .before .before .before .before .before .before .before))
 
--- src/kind.rt:67:14
 sub-t14 : tie.Need-sub-t14
 sub-t14 c = omega (arith, room (c .before .before .before .before .before .before .before .before .before))
 
--- src/kind.rt:37:1
 returns-4 : tie.Need-returns-4
 returns-4 c =
     let pre = c .before .before .before .before .before .before .before .before .before .before .before .pre in

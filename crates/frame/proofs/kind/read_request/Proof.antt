@@ -1,79 +1,61 @@
+-- `read_request` meets its contract: one law of `Outs` for each way out.
 use borrow.Author.Needs.{needs}
 use native.Mathlib.Omega.{arith}
 use Prim.Native.Nat.{_+_, _*_, _≤_}
-use mathlib.Core.Path.{sym, _∙_}
+use mathlib.Core.Path.{_∙_}
 use lib.ListN.{length}
 use denote.Ref.{now}
 use borrow.Author.Tests.{not-true, not-false}
 use Rattle.frame.proofs.Outs.{request-acks, request-room, zero-request-ack, lseq-out, a-request}
 use Rattle.frame.proofs.kind.read_request.Statement.{statement}
 use Rattle.frame.proofs.kind.read_request.Tie as tie
-use Rattle.frame.proofs.kind.read_request.Reads as reads
-use Rattle.frame.proofs.kind.read_request.Lts as lts
-use Rattle.frame.proofs.kind.refused.Reads as refused-reads
-use Rattle.frame.proofs.number.ack_field.Reads as ack-field-reads
-use Rattle.frame.proofs.number.number_at.Reads as number-at-reads
 
 room : (c : tie.After-ack-field) → 33 + 4 * c .ack-field .result .n ≤ length (now (c .before .before .args .s))
 room c = request-room _ (c .before .before .pre .0) _ (c .ack-field .ensures)
 
--- src/kind.rt:76:9
 ack-field-requires : tie.Need-ack-field-requires
 ack-field-requires c κs = request-acks _ (c .before .pre .0)
 
--- src/kind.rt:80:9
 refused-requires : tie.Need-refused-requires
 refused-requires c κs = search needs
 
--- src/kind.rt:80:9
 returns : tie.Need-returns
 returns c =
     let pre = c .before .before .before .before .before .before .pre in
     c .refused .ensures ∙ zero-request-ack _ (pre .0) (pre .1) (pre .2) _ (c .before .before .before .before .ack-field .ensures) (not-true _ (c .before .if1 .taken))
 
--- src/kind.rt:82:34
 mul-number-at : tie.Need-mul-number-at
 mul-number-at c = omega (arith, room (c .before .before .before))
 
--- src/kind.rt:82:29
 add-number-at : tie.Need-add-number-at
 add-number-at c = omega (arith, room (c .before .before .before))
 
--- src/kind.rt:82:9
 number-at-requires : tie.Need-number-at-requires
 number-at-requires c κs = omega (arith, room (c .before .before .before))
 
--- src/kind.rt:84:9
 refused-requires-2 : tie.Need-refused-requires-2
 refused-requires-2 c κs = search needs
 
--- src/kind.rt:84:9
 returns-2 : tie.Need-returns-2
 returns-2 c =
     let pre = c .before .before .before .before .before .before .before .before .pre in
     c .refused2 .ensures ∙ lseq-out _ (pre .0) (pre .1) (pre .2) _ (c .before .before .before .before .before .before .ack-field .ensures) _ (c .before .before .number-at .ensures) (c .before .if2 .taken)
 
--- src/kind.rt:89:14
 number-at-requires-2 : tie.Need-number-at-requires-2
 number-at-requires-2 c κs = omega (arith, room (c .before .before .before .before .before))
 
--- src/kind.rt:90:14
 number-at-requires-3 : tie.Need-number-at-requires-3
 number-at-requires-3 c κs = omega (arith, room (c .before .before .before .before .before .before))
 
--- src/kind.rt:95:33
 mul-number-at-2 : tie.Need-mul-number-at-2
 mul-number-at-2 c = omega (arith, room (c .before .before .before .before .before .before .before))
 
--- src/kind.rt:95:28
 add-number-at-2 : tie.Need-add-number-at-2
 add-number-at-2 c = omega (arith, room (c .before .before .before .before .before .before .before))
 
--- src/kind.rt:95:15
 number-at-requires-4 : tie.Need-number-at-requires-4
 number-at-requires-4 c κs = omega (arith, room (c .before .before .before .before .before .before .before))
 
--- src/kind.rt:72:1
 returns-3 : tie.Need-returns-3
 returns-3 c =
     let pre = c .before .before .before .before .before .before .before .before .before .before .pre in

@@ -1,13 +1,10 @@
-use borrow.Author.Needs.{needs}
+-- `refused` meets its contract.
 use mathlib.Core.Path.{refl}
 use Rattle.frame.specs.Frame.{frameOf}
 use Rattle.frame.specs.Acks.{eight}
 use Rattle.frame.proofs.kind.refused.Statement.{statement}
 use Rattle.frame.proofs.kind.refused.Tie as tie
-use Rattle.frame.proofs.kind.refused.Reads as reads
-use Rattle.frame.proofs.kind.refused.Lts as lts
 
--- src/kind.rt:14:1
 returns : tie.Need-returns
 unfolding frameOf eight
 returns c = refl

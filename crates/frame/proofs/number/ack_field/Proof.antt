@@ -1,40 +1,30 @@
+-- `ack_field` meets its contract.
 use borrow.Author.Needs.{needs}
 use native.Mathlib.Omega.{arith}
 use lib.Seq.{length-take-le}
 use denote.Ref.{now}
-use Prim.Native.Nat.{_≤_, _/_}
+use Prim.Native.Nat.{_/_}
 use lib.ListN.{length}
 use mathlib.Core.Path.{_≡_, sym}
 use Rattle.frame.proofs.Numbers.{length-all, acks-are}
 use Rattle.frame.proofs.number.ack_field.Statement.{statement}
 use Rattle.frame.proofs.number.ack_field.Tie as tie
-use Rattle.frame.proofs.number.ack_field.Reads as reads
-use Rattle.frame.proofs.number.ack_field.Lts as lts
-use Rattle.frame.proofs.number.acks_at.Reads as acks-at-reads
-use Rattle.frame.proofs.number.no_zero.Reads as no-zero-reads
-use Rattle.frame.proofs.number.number_at.Reads as number-at-reads
 
--- src/number.rt:69:13
 number-at-requires : tie.Need-number-at-requires
 number-at-requires c κs = search needs
 
--- src/number.rt:69:13
 cast-n : tie.Need-cast-n
 cast-n c = search needs
 
--- src/number.rt:70:26
 add-acks-at : tie.Need-add-acks-at
 add-acks-at c = search needs
 
--- src/number.rt:70:15
 acks-at-requires : tie.Need-acks-at-requires
 acks-at-requires c κs = search needs
 
--- src/number.rt:72:21
 array-share-prefix-all : tie.Need-array-share-prefix-all
 array-share-prefix-all c = search needs
 
--- src/number.rt:72:21
 slice-aggregate-no-zero : tie.Need-slice-aggregate-no-zero
 slice-aggregate-no-zero c =
     let a = c .before .before .before .before .args in
@@ -43,11 +33,9 @@ slice-aggregate-no-zero c =
     let long : length all ≡ 8 = length-all (now (a .s)) (a .at) x all (c .before .before .number-at .ensures) (c .before .acks-at .ensures) (omega arith) in
     sym (length-take-le (x / 4) all (omega arith))
 
--- src/number.rt:72:13
 no-zero-requires : tie.Need-no-zero-requires
 no-zero-requires c κs = search needs
 
--- src/number.rt:65:1
 returns : tie.Need-returns
 returns c =
     let a = c .before .before .before .before .before .args in

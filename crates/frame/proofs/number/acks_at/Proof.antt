@@ -1,7 +1,7 @@
+-- `acks_at` meets its contract. The invariant: the first i numbers are read, and the others of the eight are 0.
 use borrow.Author.Needs.{needs}
 use native.Mathlib.Omega.{arith}
 use Prim.Native.Nat.{_-_, _≤_}
-use mathlib.Core.List.{List}
 use mathlib.Core.Path.{_≡_, refl, ap, _∙_}
 use lib.ListN.{drop, set}
 use denote.Ref.{now}
@@ -10,9 +10,6 @@ use Rattle.frame.specs.Acks.{eight}
 use Rattle.rules.specs.Bytes.{allNumbers}
 use Rattle.frame.proofs.number.acks_at.Statement.{statement}
 use Rattle.frame.proofs.number.acks_at.Tie as tie
-use Rattle.frame.proofs.number.acks_at.Reads as reads
-use Rattle.frame.proofs.number.acks_at.Lts as lts
-use Rattle.frame.proofs.number.number_at.Reads as number-at-reads
 
 abbrev Inv-loop : tie.InvT-loop
 Inv-loop s at n ack₀ i₀ ack i = (i ≤ n) × (ack ≡ eight (allNumbers 4 i (drop at s)))
@@ -20,40 +17,31 @@ Inv-loop s at n ack₀ i₀ ack i = (i ≤ n) × (ack ≡ eight (allNumbers 4 i 
 abbrev μ-loop : tie.MeasureT-loop
 μ-loop s at n ack₀ i₀ ack i = n - i
 
--- src/number.rt:36:5
 loop-holds : tie.Need-loop-holds Inv-loop μ-loop
 unfolding eight
 loop-holds c = (omega arith, refl)
 
--- src/number.rt:37:36
 mul-number-at : tie.Need-mul-number-at Inv-loop μ-loop
 mul-number-at c = search needs
 
--- src/number.rt:37:31
 add-number-at : tie.Need-add-number-at Inv-loop μ-loop
 add-number-at c = search needs
 
--- src/number.rt:37:18
 number-at-requires : tie.Need-number-at-requires Inv-loop μ-loop
 number-at-requires c κs = search needs
 
--- src/number.rt:37:9
 mul-ack : tie.Need-mul-ack Inv-loop μ-loop
 mul-ack c = search needs
 
--- src/number.rt:37:9
 array-write-ack : tie.Need-array-write-ack Inv-loop μ-loop
 array-write-ack c = search needs
 
--- src/number.rt:38:9
 add-i : tie.Need-add-i Inv-loop μ-loop
 add-i c = search needs
 
--- src/number.rt:36:5
 loop-less : tie.Need-loop-less Inv-loop μ-loop
 loop-less c = search needs
 
--- src/number.rt:36:5
 loop-again : tie.Need-loop-again Inv-loop μ-loop
 loop-again c =
     let l = c .before .before .loop in
@@ -61,7 +49,6 @@ loop-again c =
     let x = c .number-at .result in
     (omega arith, ap (λ o. set o (l .i) x) (l .inv .1) ∙ acks-more (now (a .s)) (a .at) (l .i) x (omega arith) (c .number-at .ensures))
 
--- src/number.rt:30:1
 returns : tie.Need-returns Inv-loop μ-loop
 returns c =
     let a = c .before .before .before .args in

@@ -1,3 +1,4 @@
+-- `no_zero` meets its contract. The invariant: the test of what is left is the whole test.
 use borrow.Author.Needs.{needs}
 use native.Mathlib.Omega.{arith}
 use Prim.Native.Nat.{_-_, _≤_}
@@ -7,8 +8,6 @@ use Rattle.frame.proofs.Numbers.{zero-here, no-zero-here, no-zero-left}
 use Rattle.rules.specs.Message.{noZero}
 use Rattle.frame.proofs.number.no_zero.Statement.{statement}
 use Rattle.frame.proofs.number.no_zero.Tie as tie
-use Rattle.frame.proofs.number.no_zero.Reads as reads
-use Rattle.frame.proofs.number.no_zero.Lts as lts
 
 abbrev Inv-loop : tie.InvT-loop
 Inv-loop a i₀ i = (i ≤ length a) × (noZero (drop i a) ≡ noZero a)
@@ -16,35 +15,27 @@ Inv-loop a i₀ i = (i ≤ length a) × (noZero (drop i a) ≡ noZero a)
 abbrev μ-loop : tie.MeasureT-loop
 μ-loop a i₀ i = length a - i
 
--- src/number.rt:48:5
 loop-holds : tie.Need-loop-holds Inv-loop μ-loop
 loop-holds c = (omega arith, refl)
 
--- src/number.rt:49:12
 mul-if1 : tie.Need-mul-if1 Inv-loop μ-loop
 mul-if1 c = search needs
 
--- src/number.rt:49:12
 shared-slice-read-if1 : tie.Need-shared-slice-read-if1 Inv-loop μ-loop
 shared-slice-read-if1 c = search needs
 
--- src/number.rt:50:13
 returns : tie.Need-returns Inv-loop μ-loop
 returns c = sym (zero-here _ _ (c .before .before .loop-test .taken) (c .if1 .taken)) ∙ c .before .before .before .loop .inv .1
 
--- src/number.rt:52:9
 add-i : tie.Need-add-i Inv-loop μ-loop
 add-i c = search needs
 
--- src/number.rt:48:5
 loop-less : tie.Need-loop-less Inv-loop μ-loop
 loop-less c = search needs
 
--- src/number.rt:48:5
 loop-again : tie.Need-loop-again Inv-loop μ-loop
 loop-again c = (omega arith, sym (no-zero-here _ _ (c .before .before .loop-test .taken) (c .if1 .left)) ∙ c .before .before .before .loop .inv .1)
 
--- src/number.rt:44:1
 returns-2 : tie.Need-returns-2 Inv-loop μ-loop
 returns-2 c = sym (no-zero-left _ (c .before .loop .i) (omega arith)) ∙ c .before .loop .inv .1
 

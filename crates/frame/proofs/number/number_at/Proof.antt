@@ -1,16 +1,14 @@
+-- `number_at` meets its contract. The invariant: x is the number of the j bytes read.
 use borrow.Author.Needs.{needs}
 use native.Mathlib.Omega.{arith}
 use Prim.Native.Nat.{_^_, _-_, _≤_, _<_}
-use mathlib.Core.Path.{_≡_, refl, ap, sym, _∙_}
+use mathlib.Core.Path.{_≡_, refl, ap, _∙_}
 use lib.ListN.{take, drop}
 use denote.Ref.{now}
 use Rattle.frame.proofs.Numbers.{room, one-more, one-more-fits}
 use Rattle.rules.specs.Bytes.{number}
 use Rattle.frame.proofs.number.number_at.Statement.{statement}
 use Rattle.frame.proofs.number.number_at.Tie as tie
-use Rattle.frame.proofs.number.number_at.Reads as reads
-use Rattle.frame.proofs.number.number_at.Lts as lts
-use Rattle.frame.proofs.number.wide.Reads as wide-reads
 
 abbrev Inv-loop : tie.InvT-loop
 Inv-loop s at w x₀ j₀ x j = (j ≤ w) × ((x ≡ number (take j (drop at s))) × (x < 256 ^ j))
@@ -18,43 +16,34 @@ Inv-loop s at w x₀ j₀ x j = (j ≤ w) × ((x ≡ number (take j (drop at s))
 abbrev μ-loop : tie.MeasureT-loop
 μ-loop s at w x₀ j₀ x j = w - j
 
--- src/number.rt:22:5
 loop-holds : tie.Need-loop-holds Inv-loop μ-loop
 loop-holds c = (omega arith, (refl, omega arith))
 
--- src/number.rt:23:13
 mul-x : tie.Need-mul-x Inv-loop μ-loop
 mul-x c =
     let l = c .before .loop in
     omega (arith, room _ (l .j) (l .x) (c .before .before .before .pre .0) (c .loop-test .taken) (l .inv .1 .1))
 
--- src/number.rt:23:30
 add-wide : tie.Need-add-wide Inv-loop μ-loop
 add-wide c = search needs
 
--- src/number.rt:23:28
 shared-slice-read-wide : tie.Need-shared-slice-read-wide Inv-loop μ-loop
 shared-slice-read-wide c = search needs
 
--- src/number.rt:23:23
 wide-requires : tie.Need-wide-requires Inv-loop μ-loop
 wide-requires c κs = search needs
 
--- src/number.rt:23:13
 add-x : tie.Need-add-x Inv-loop μ-loop
 add-x c =
     let l = c .before .before .before .loop in
     omega (arith, room _ (l .j) (l .x) (c .before .before .before .before .before .pre .0) (c .before .before .loop-test .taken) (l .inv .1 .1))
 
--- src/number.rt:24:9
 add-j : tie.Need-add-j Inv-loop μ-loop
 add-j c = search needs
 
--- src/number.rt:22:5
 loop-less : tie.Need-loop-less Inv-loop μ-loop
 loop-less c = search needs
 
--- src/number.rt:22:5
 loop-again : tie.Need-loop-again Inv-loop μ-loop
 loop-again c =
     let l = c .before .before .before .loop in
@@ -67,7 +56,6 @@ loop-again c =
       ),
     )
 
--- src/number.rt:16:1
 returns : tie.Need-returns Inv-loop μ-loop
 returns c =
     let l = c .before .loop in

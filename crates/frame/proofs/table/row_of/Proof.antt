@@ -1,43 +1,33 @@
+-- `row_of` meets its contract: the code's table is the rules' table.
 use borrow.Author.Needs.{needs}
-use mathlib.Core.Path.{refl}
 use native.Mathlib.Omega.{arith}
 use Rattle.frame.proofs.Lines.{row-of-tag, row-past}
 use Rattle.rules.specs.Fields.{table, rowOf}
 use Rattle.frame.proofs.table.row_of.Statement.{statement}
 use Rattle.frame.proofs.table.row_of.Tie as tie
-use Rattle.frame.proofs.table.row_of.Reads as reads
-use Rattle.frame.proofs.table.row_of.Lts as lts
 
--- src/table.rt:34:16
 array-copy-out-result : tie.Need-array-copy-out-result
 array-copy-out-result c = search needs
 
--- src/table.rt:34:9
 returns : tie.Need-returns
 unfolding table rowOf
 returns c = rw (c .before .if1 .taken)
 
--- src/table.rt:37:9
 returns-2 : tie.Need-returns-2
 returns-2 c = row-past _ (c .if2 .taken)
 
--- src/table.rt:39:12
 sub-result : tie.Need-sub-result
 sub-result c = search needs
 
--- src/table.rt:39:11
 cast-result : tie.Need-cast-result
 cast-result c = search needs
 
--- src/table.rt:39:5
 mul-result : tie.Need-mul-result
 mul-result c = search needs
 
--- src/table.rt:39:5
 array-copy-out-result-2 : tie.Need-array-copy-out-result-2
 array-copy-out-result-2 c = search needs
 
--- src/table.rt:30:1
 returns-3 : tie.Need-returns-3
 unfolding table
 returns-3 c = row-of-tag (c .before .before .before .args .tag) _ (omega arith) (omega arith)

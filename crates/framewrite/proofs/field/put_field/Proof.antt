@@ -1,3 +1,4 @@
+-- `put_field` meets its contract.
 use borrow.Author.Needs.{needs}
 use native.Mathlib.Omega.{arith}
 use Prim.Native.Nat.{_≤_, _+_, _*_, _<_}
@@ -7,11 +8,6 @@ use mathlib.Core.Path.{_∙_}
 use Rattle.framewrite.proofs.Laying.{numbers-short, numbers-narrow, numbers-room, numbers-written}
 use Rattle.framewrite.proofs.field.put_field.Statement.{statement}
 use Rattle.framewrite.proofs.field.put_field.Tie as tie
-use Rattle.framewrite.proofs.field.put_field.Reads as reads
-use Rattle.framewrite.proofs.field.put_field.Lts as lts
-use Rattle.frame.proofs.table.row_of.Reads as row-of-reads
-use Rattle.framewrite.proofs.field.put_front.Reads as put-front-reads
-use Rattle.framewrite.proofs.number.put_numbers.Reads as put-numbers-reads
 
 short : (c : tie.After-row-of) → c .row-of .result .width * length (now (c .before .before .before .args .xs)) < 65536
 short c = numbers-short _ _ _ _ (c .before .before .before .pre) _ (c .row-of .ensures)
@@ -21,39 +17,30 @@ room : (c : tie.After-row-of)
     a .at + (3 + c .row-of .result .width * length (now (a .xs))) ≤ length (now (a .d))
 room c = numbers-room _ _ _ _ (c .before .before .before .pre) _ (c .row-of .ensures)
 
--- src/field.rt:44:9
 row-of-requires : tie.Need-row-of-requires
 row-of-requires c κs = search needs
 
--- src/field.rt:46:13
 mul-n : tie.Need-mul-n
 mul-n c = omega (arith, short c)
 
--- src/field.rt:47:5
 put-front-requires : tie.Need-put-front-requires
 put-front-requires c κs = omega (arith, short (c .before), room (c .before))
 
--- src/field.rt:48:20
 add-put-numbers : tie.Need-add-put-numbers
 add-put-numbers c = omega (arith, room (c .before .before .before .before .before))
 
--- src/field.rt:48:5
 put-numbers-requires : tie.Need-put-numbers-requires
 put-numbers-requires c κs = (numbers-narrow _ _ _ _ (c .before .before .before .before .before .before .before .before .pre) _ (c .before .before .before .before .before .row-of .ensures), omega (arith, room (c .before .before .before .before .before), c .before .before .before .put-front .kept .0))
 
--- src/field.rt:49:5
 add-result : tie.Need-add-result
 add-result c = omega (arith, room (c .before .before .before .before .before .before .before .before))
 
--- src/field.rt:49:5
 add-result-2 : tie.Need-add-result-2
 add-result-2 c = omega (arith, room (c .before .before .before .before .before .before .before .before))
 
--- src/field.rt:40:1
 same-length : tie.Need-same-length
 same-length c = c .before .before .put-numbers .kept .0 ∙ c .before .before .before .before .before .before .put-front .kept .0
 
--- src/field.rt:40:1
 returns : tie.Need-returns
 returns c = numbers-written _ _ _ _ (c .before .before .before .before .before .before .before .before .before .before .before .pre) _ (c .before .before .before .before .before .before .before .before .row-of .ensures) _ _ (c .before .before .before .before .before .before .put-front .ensures) (c .before .before .put-numbers .ensures)
 

@@ -1,3 +1,4 @@
+-- `put_front` meets its contract.
 use borrow.Author.Needs.{needs}
 use native.Mathlib.Omega.{arith}
 use native.Mathlib.Numerals.{towards-suc}
@@ -5,31 +6,22 @@ use mathlib.Core.Path.{_∙_}
 use lib.ListN.{length-set}
 use Rattle.framewrite.proofs.field.put_front.Statement.{statement}
 use Rattle.framewrite.proofs.field.put_front.Tie as tie
-use Rattle.framewrite.proofs.field.put_front.Reads as reads
-use Rattle.framewrite.proofs.field.put_front.Lts as lts
-use Rattle.framewrite.proofs.number.put_number.Reads as put-number-reads
 
--- src/field.rt:35:5
 slice-write-d : tie.Need-slice-write-d
 slice-write-d c = search needs
 
--- src/field.rt:36:19
 add-put-number : tie.Need-add-put-number
 add-put-number c = search needs
 
--- src/field.rt:36:30
 cast-put-number : tie.Need-cast-put-number
 cast-put-number c = search needs
 
--- src/field.rt:36:5
 put-number-requires : tie.Need-put-number-requires
 put-number-requires c κs = (omega arith, simp length-set (omega arith))
 
--- src/field.rt:31:1
 same-length : tie.Need-same-length
 same-length c = c .before .before .put-number .kept .0 ∙ simp length-set
 
--- src/field.rt:31:1
 returns : tie.Need-returns
 returns c = c .before .before .put-number .ensures ∙ simp towards-suc
 

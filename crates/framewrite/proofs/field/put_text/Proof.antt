@@ -1,39 +1,28 @@
-use borrow.Author.Needs.{needs}
+-- `put_text` meets its contract.
 use native.Mathlib.Omega.{arith}
 use mathlib.Core.Path.{_∙_}
 use Rattle.framewrite.proofs.Laying.{text-short, text-room, text-written}
 use Rattle.framewrite.proofs.field.put_text.Statement.{statement}
 use Rattle.framewrite.proofs.field.put_text.Tie as tie
-use Rattle.framewrite.proofs.field.put_text.Reads as reads
-use Rattle.framewrite.proofs.field.put_text.Lts as lts
-use Rattle.framewrite.proofs.field.put_front.Reads as put-front-reads
-use Rattle.framewrite.proofs.number.put_bytes.Reads as put-bytes-reads
 
--- src/field.rt:58:5
 put-front-requires : tie.Need-put-front-requires
 put-front-requires c κs = omega (arith, text-short _ _ _ (c .before .before .before .pre), text-room _ _ _ (c .before .before .before .pre))
 
--- src/field.rt:59:18
 add-put-bytes : tie.Need-add-put-bytes
 add-put-bytes c = omega (arith, text-room _ _ _ (c .before .before .before .before .before .before .before .pre))
 
--- src/field.rt:59:5
 put-bytes-requires : tie.Need-put-bytes-requires
 put-bytes-requires c κs = omega (arith, text-room _ _ _ (c .before .before .before .before .before .before .before .pre), c .before .before .before .put-front .kept .0)
 
--- src/field.rt:60:5
 add-result : tie.Need-add-result
 add-result c = omega (arith, text-room _ _ _ (c .before .before .before .before .before .before .before .before .before .before .pre))
 
--- src/field.rt:60:5
 add-result-2 : tie.Need-add-result-2
 add-result-2 c = omega (arith, text-room _ _ _ (c .before .before .before .before .before .before .before .before .before .before .pre))
 
--- src/field.rt:53:1
 same-length : tie.Need-same-length
 same-length c = c .before .before .put-bytes .kept .0 ∙ c .before .before .before .before .before .before .put-front .kept .0
 
--- src/field.rt:53:1
 returns : tie.Need-returns
 returns c = text-written _ _ _ (c .before .before .before .before .before .before .before .before .before .before .pre) _ _ (c .before .before .before .before .before .before .put-front .ensures) (c .before .before .put-bytes .ensures)
 

@@ -1,55 +1,42 @@
+-- `number_of` meets its contract.
 use borrow.Author.Needs.{needs}
 use Rattle.framewrite.proofs.Rest.{number-rest}
 use Rattle.framewrite.proofs.fields.number_of.Statement.{statement}
 use Rattle.framewrite.proofs.fields.number_of.Tie as tie
-use Rattle.framewrite.proofs.fields.number_of.Reads as reads
-use Rattle.framewrite.proofs.fields.number_of.Lts as lts
 
--- src/fields.rt:27:14
 cast-result : tie.Need-cast-result
 cast-result c = search needs
 
--- src/fields.rt:29:14
 cast-result-2 : tie.Need-cast-result-2
 cast-result-2 c = search needs
 
--- src/fields.rt:31:14
 cast-result-3 : tie.Need-cast-result-3
 cast-result-3 c = search needs
 
--- src/fields.rt:32:14
 cast-result-4 : tie.Need-cast-result-4
 cast-result-4 c = search needs
 
--- src/fields.rt:22:1
 returns : tie.Need-returns
 returns c = rw (c .match .keys1)
 
--- src/fields.rt:22:1
 returns-2 : tie.Need-returns-2
 returns-2 c = rw (c .before .match .keys2)
 
--- src/fields.rt:22:1
 returns-3 : tie.Need-returns-3
 returns-3 c = rw (c .match .keys3)
 
--- src/fields.rt:22:1
 returns-4 : tie.Need-returns-4
 returns-4 c = rw (c .before .match .keys4)
 
--- src/fields.rt:22:1
 returns-5 : tie.Need-returns-5
 returns-5 c = rw (c .match .keys5)
 
--- src/fields.rt:22:1
 returns-6 : tie.Need-returns-6
 returns-6 c = rw (c .before .match .keys6)
 
--- src/fields.rt:22:1
 returns-7 : tie.Need-returns-7
 returns-7 c = rw (c .before .match .keys7)
 
--- src/fields.rt:22:1
 returns-8 : tie.Need-returns-8
 returns-8 c =
     let r = c .match .rest in

@@ -1,3 +1,4 @@
+-- `put_fields` meets its contract. The invariant: writing the fields of the tags left gives the whole.
 use borrow.Author.Needs.{needs}
 use native.Mathlib.Omega.{arith}
 use Prim.Native.Nat.{ℕ, _+_, _-_, _≤_}
@@ -14,10 +15,6 @@ use Rattle.rules.proofs.FieldsLaws.{tagsLeft}
 use Rattle.rules.specs.Fields.{table}
 use Rattle.framewrite.proofs.fields.put_fields.Statement.{statement}
 use Rattle.framewrite.proofs.fields.put_fields.Tie as tie
-use Rattle.framewrite.proofs.fields.put_fields.Reads as reads
-use Rattle.framewrite.proofs.fields.put_fields.Lts as lts
-use Rattle.frame.proofs.table.has_tag.Reads as has-tag-reads
-use Rattle.framewrite.proofs.fields.put_tag.Reads as put-tag-reads
 
 abbrev Inv-loop : tie.InvT-loop
 Inv-loop d₀ m ack text kind at₀ tag₀ d at tag = (1 ≤ tag) × ((tag ≤ 11) × ((length d ≡ length d₀) × Left (contentOf m ack text) (tagsLeft table tag (m .kind)) d at (sets d₀ 0 (fieldsOf m ack text))))
@@ -25,7 +22,6 @@ Inv-loop d₀ m ack text kind at₀ tag₀ d at tag = (1 ≤ tag) × ((tag ≤ 1
 abbrev μ-loop : tie.MeasureT-loop
 μ-loop d₀ m ack text kind at₀ tag₀ d at tag = 11 - tag
 
--- src/fields.rt:60:5
 loop-holds : tie.Need-loop-holds Inv-loop μ-loop
 loop-holds c =
     let a = c .before .before .before .args in (
@@ -41,25 +37,20 @@ loop-holds c =
       ),
     )
 
--- src/fields.rt:61:12
 has-tag-requires : tie.Need-has-tag-requires Inv-loop μ-loop
 has-tag-requires c κs = search needs
 
--- src/fields.rt:62:13
 put-tag-requires : tie.Need-put-tag-requires Inv-loop μ-loop
 put-tag-requires c κs =
     let i = c .before .before .before .before .loop .inv in
     field-room _ _ _ (i .0) (c .before .before .before .loop-test .taken) _ _ _ (i .1 .1 .1) (sym (c .before .before .has-tag .ensures) ∙ c .before .if1 .taken)
 
--- src/fields.rt:64:9
 add-tag : tie.Need-add-tag Inv-loop μ-loop
 add-tag c = search needs
 
--- src/fields.rt:60:5
 loop-less : tie.Need-loop-less Inv-loop μ-loop
 loop-less c = search needs
 
--- src/fields.rt:60:5
 loop-again : tie.Need-loop-again Inv-loop μ-loop
 loop-again c =
     let l = c .before .before .before .loop in
@@ -85,11 +76,9 @@ loop-again c =
     (c .if1 .came) in
     (omega arith, (omega arith, next))
 
--- src/fields.rt:53:1
 same-length : tie.Need-same-length Inv-loop μ-loop
 same-length c = c .before .loop .inv .1 .1 .0
 
--- src/fields.rt:53:1
 returns : tie.Need-returns Inv-loop μ-loop
 returns c =
     let l = c .before .loop in

@@ -1,43 +1,33 @@
+-- `put_tag` meets its contract.
 use borrow.Author.Needs.{needs}
-use mathlib.Core.Path.{sym, ap, subst, _∙_}
-use mathlib.Core.List.{List, [], _∷_}
-use Prim.Native.Nat.{ℕ}
+use mathlib.Core.Path.{sym, ap, subst, _∙_, _≡_}
+use mathlib.Core.List.{[], _∷_}
 use denote.Ref.{now}
-use mathlib.Core.Path.{_≡_}
 use Rattle.framewrite.specs.Fields.{contentOf}
 use Rattle.framewrite.proofs.Rest.{content-ack, content-text, content-one}
 use Rattle.framewrite.specs.Field.{FieldRoom, FieldWritten}
 use Rattle.framewrite.proofs.fields.put_tag.Statement.{statement}
 use Rattle.framewrite.proofs.fields.put_tag.Tie as tie
-use Rattle.framewrite.proofs.fields.put_tag.Reads as reads
-use Rattle.framewrite.proofs.fields.put_tag.Lts as lts
-use Rattle.framewrite.proofs.field.put_field.Reads as put-field-reads
-use Rattle.framewrite.proofs.field.put_text.Reads as put-text-reads
-use Rattle.framewrite.proofs.fields.number_of.Reads as number-of-reads
 
 alone : (c : tie.After-number-of)
     → let a = c .before .before .before .before .before .before .args in
     contentOf (a .m) (now (a .ack)) (now (a .text)) (a .tag) ≡ c .number-of .result ∷ []
 alone c = content-one _ _ _ _ (c .before .before .if1 .left) (c .before .if2 .left) ∙ ap (λ x. x ∷ []) (sym (c .number-of .ensures))
 
--- src/fields.rt:43:9
 put-field-requires : tie.Need-put-field-requires
 put-field-requires c κs =
     let a = c .before .before .before .before .before .args in
     subst (λ v. FieldRoom (a .tag) v (a .at) (now (a .d))) (content-ack (a .m) (now (a .ack)) (now (a .text)) (a .tag) (c .before .if1 .taken)) (c .before .before .before .before .before .pre)
 
--- src/fields.rt:43:9
 same-length : tie.Need-same-length
 same-length c = search needs
 
--- src/fields.rt:43:9
 returns : tie.Need-returns
 returns c =
     let a = c .before .before .before .before .before .before .before .before .args in
     subst (λ v. FieldWritten (a .tag) v (a .at) (now (a .d)) (c .before .before .put-field .result) (c .before .before .put-field .last .0))
     (sym (content-ack (a .m) (now (a .ack)) (now (a .text)) (a .tag) (c .before .before .before .before .if1 .taken))) (c .before .before .put-field .ensures)
 
--- src/fields.rt:46:9
 put-text-requires : tie.Need-put-text-requires
 put-text-requires c κs =
     let a = c .before .before .before .before .before .before .args in
@@ -45,11 +35,9 @@ put-text-requires c κs =
     subst (λ i. FieldRoom i (now (a .text)) (a .at) (now (a .d))) t
     (subst (λ v. FieldRoom (a .tag) v (a .at) (now (a .d))) (content-text (a .m) (now (a .ack)) (now (a .text)) (a .tag) t) (c .before .before .before .before .before .before .pre))
 
--- src/fields.rt:46:9
 same-length-2 : tie.Need-same-length-2
 same-length-2 c = search needs
 
--- src/fields.rt:46:9
 returns-2 : tie.Need-returns-2
 returns-2 c =
     let a = c .before .before .before .before .before .before .before .before .before .args in
@@ -59,25 +47,20 @@ returns-2 c =
     subst (λ v. FieldWritten (a .tag) v (a .at) (now (a .d)) r after) (sym (content-text (a .m) (now (a .ack)) (now (a .text)) (a .tag) t))
     (subst (λ i. FieldWritten i (now (a .text)) (a .at) (now (a .d)) r after) (sym t) (c .before .before .put-text .ensures))
 
--- src/fields.rt:48:16
 number-of-requires : tie.Need-number-of-requires
 number-of-requires c κs = search needs
 
--- src/fields.rt:49:27
 slice-aggregate-put-field : tie.Need-slice-aggregate-put-field
 slice-aggregate-put-field c = search needs
 
--- src/fields.rt:49:5
 put-field-requires-2 : tie.Need-put-field-requires-2
 put-field-requires-2 c κs =
     let a = c .before .before .before .before .before .before .before .before .args in
     subst (λ v. FieldRoom (a .tag) v (a .at) (now (a .d))) (alone (c .before .before)) (c .before .before .before .before .before .before .before .before .pre)
 
--- src/fields.rt:38:1
 same-length-3 : tie.Need-same-length-3
 same-length-3 c = search needs
 
--- src/fields.rt:38:1
 returns-3 : tie.Need-returns-3
 returns-3 c =
     let a = c .before .before .before .before .before .before .before .before .before .before .before .args in

@@ -1,3 +1,4 @@
+-- `put_bytes` meets its contract. The invariant: storing what is left gives the whole.
 use borrow.Author.Needs.{needs}
 use native.Mathlib.Omega.{arith}
 use Prim.Native.Nat.{_+_, _-_, _≤_}
@@ -9,8 +10,6 @@ use denote.Ref.{now}
 use Rattle.frame.proofs.Stores.{store-one, store-none}
 use Rattle.framewrite.proofs.number.put_bytes.Statement.{statement}
 use Rattle.framewrite.proofs.number.put_bytes.Tie as tie
-use Rattle.framewrite.proofs.number.put_bytes.Reads as reads
-use Rattle.framewrite.proofs.number.put_bytes.Lts as lts
 
 abbrev Inv-loop : tie.InvT-loop
 Inv-loop d₀ at b i₀ d i = (i ≤ length b) × ((length d ≡ length d₀) × (sets d (at + i) (drop i b) ≡ sets d₀ at b))
@@ -18,41 +17,32 @@ Inv-loop d₀ at b i₀ d i = (i ≤ length b) × ((length d ≡ length d₀) ×
 abbrev μ-loop : tie.MeasureT-loop
 μ-loop d₀ at b i₀ d i = length b - i
 
--- src/number.rt:50:5
 loop-holds : tie.Need-loop-holds Inv-loop μ-loop
 loop-holds c = (omega arith, (refl, rw add-zero))
 
--- src/number.rt:51:21
 shared-slice-read-d : tie.Need-shared-slice-read-d Inv-loop μ-loop
 shared-slice-read-d c = search needs
 
--- src/number.rt:51:11
 add-d : tie.Need-add-d Inv-loop μ-loop
 add-d c = search needs
 
--- src/number.rt:51:9
 slice-write-d : tie.Need-slice-write-d Inv-loop μ-loop
 slice-write-d c = search needs
 
--- src/number.rt:52:9
 add-i : tie.Need-add-i Inv-loop μ-loop
 add-i c = search needs
 
--- src/number.rt:50:5
 loop-less : tie.Need-loop-less Inv-loop μ-loop
 loop-less c = search needs
 
--- src/number.rt:50:5
 loop-again : tie.Need-loop-again Inv-loop μ-loop
 loop-again c =
     let l = c .before .before .loop in
     (omega arith, (simp length-set (l .inv .1 .0), store-one _ _ _ _ (c .before .loop-test .taken) ∙ l .inv .1 .1))
 
--- src/number.rt:45:1
 same-length : tie.Need-same-length Inv-loop μ-loop
 same-length c = c .before .loop .inv .1 .0
 
--- src/number.rt:45:1
 returns : tie.Need-returns Inv-loop μ-loop
 returns c =
     let l = c .before .loop in

@@ -1,17 +1,14 @@
+-- `put_number` meets its contract. The invariant: storing the j bytes left gives the whole.
 use borrow.Author.Needs.{needs}
 use native.Mathlib.Omega.{arith}
-use Prim.Native.Nat.{suc, _-_, _%_, _^_, _≤_, _<_}
+use Prim.Native.Nat.{suc, _-_, _^_, _≤_, _<_, _+_, _/_}
 use lib.ListN.{length, set, length-set}
 use lib.Seq.{sets}
-use Prim.Native.Nat.{_+_, _/_}
 use mathlib.Core.Path.{_≡_, refl, sym, ap, _∙_}
 use Rattle.framewrite.proofs.Digits.{fewer, last-byte}
 use Rattle.rules.specs.Bytes.{bytes}
 use Rattle.framewrite.proofs.number.put_number.Statement.{statement}
 use Rattle.framewrite.proofs.number.put_number.Tie as tie
-use Rattle.framewrite.proofs.number.put_number.Reads as reads
-use Rattle.framewrite.proofs.number.put_number.Lts as lts
-use Rattle.framewrite.proofs.number.byte.Reads as byte-reads
 
 abbrev Inv-loop : tie.InvT-loop
 Inv-loop d₀ at w x j₀ left₀ d j left = (j ≤ w) × ((left < 256 ^ j) × ((length d ≡ length d₀) × (sets d at (bytes j left) ≡ sets d₀ at (bytes w x))))
@@ -19,31 +16,24 @@ Inv-loop d₀ at w x j₀ left₀ d j left = (j ≤ w) × ((left < 256 ^ j) × (
 abbrev μ-loop : tie.MeasureT-loop
 μ-loop d₀ at w x j₀ left₀ d j left = j
 
--- src/number.rt:23:5
 loop-holds : tie.Need-loop-holds Inv-loop μ-loop
 loop-holds c = (omega arith, (c .before .pre .0, (refl, refl)))
 
--- src/number.rt:24:9
 sub-j : tie.Need-sub-j Inv-loop μ-loop
 sub-j c = search needs
 
--- src/number.rt:25:21
 byte-requires : tie.Need-byte-requires Inv-loop μ-loop
 byte-requires c κs = search needs
 
--- src/number.rt:25:11
 add-d : tie.Need-add-d Inv-loop μ-loop
 add-d c = search needs
 
--- src/number.rt:25:9
 slice-write-d : tie.Need-slice-write-d Inv-loop μ-loop
 slice-write-d c = search needs
 
--- src/number.rt:23:5
 loop-less : tie.Need-loop-less Inv-loop μ-loop
 loop-less c = search needs
 
--- src/number.rt:23:5
 loop-again : tie.Need-loop-again Inv-loop μ-loop
 loop-again c =
     let l = c .before .before .loop in
@@ -61,11 +51,9 @@ loop-again c =
       ),
     )
 
--- src/number.rt:17:1
 same-length : tie.Need-same-length Inv-loop μ-loop
 same-length c = c .before .loop .inv .1 .1 .0
 
--- src/number.rt:17:1
 returns : tie.Need-returns Inv-loop μ-loop
 returns c =
     let l = c .before .loop in

@@ -1,7 +1,8 @@
+-- `put_numbers` meets its contract. The invariant: storing the numbers left gives the whole.
 use borrow.Author.Needs.{needs}
 use native.Mathlib.Omega.{arith}
 use Prim.Native.Nat.{_+_, _-_, _≤_}
-use mathlib.Core.Path.{_≡_, refl, sym, _∙_}
+use mathlib.Core.Path.{_≡_, refl, _∙_}
 use lib.ListN.{length, drop}
 use lib.Seq.{sets}
 use denote.Ref.{now}
@@ -10,9 +11,6 @@ use Rattle.rules.proofs.BytesLaws.{each-at, length-allBytes}
 use Rattle.rules.specs.Bytes.{allBytes}
 use Rattle.framewrite.proofs.number.put_numbers.Statement.{statement}
 use Rattle.framewrite.proofs.number.put_numbers.Tie as tie
-use Rattle.framewrite.proofs.number.put_numbers.Reads as reads
-use Rattle.framewrite.proofs.number.put_numbers.Lts as lts
-use Rattle.framewrite.proofs.number.put_number.Reads as put-number-reads
 
 abbrev Inv-loop : tie.InvT-loop
 Inv-loop d₀ at w xs i₀ to₀ d i to = (i ≤ length xs) × ((length d ≡ length d₀) × ((to + length (allBytes w (drop i xs)) ≤ length d) × (sets d to (allBytes w (drop i xs)) ≡ sets d₀ at (allBytes w xs))))
@@ -20,43 +18,35 @@ Inv-loop d₀ at w xs i₀ to₀ d i to = (i ≤ length xs) × ((length d ≡ le
 abbrev μ-loop : tie.MeasureT-loop
 μ-loop d₀ at w xs i₀ to₀ d i to = length xs - i
 
--- src/number.rt:37:5
 loop-holds : tie.Need-loop-holds Inv-loop μ-loop
 loop-holds c =
     let a = c .before .before .args in
     (omega arith, (refl, (omega (arith, length-allBytes (a .w) (now (a .xs))), refl)))
 
--- src/number.rt:38:30
 mul-put-number : tie.Need-mul-put-number Inv-loop μ-loop
 mul-put-number c = search needs
 
--- src/number.rt:38:30
 shared-slice-read-put-number : tie.Need-shared-slice-read-put-number Inv-loop μ-loop
 shared-slice-read-put-number c = search needs
 
--- src/number.rt:38:9
 put-number-requires : tie.Need-put-number-requires Inv-loop μ-loop
 put-number-requires c κs =
     let a = c .before .before .before .before .before .before .args in
     let l = c .before .before .before .loop in
     (each-at (c .before .before .before .before .before .before .pre .0) (l .i) (c .before .before .loop-test .taken), omega (arith, length-left (a .w) (now (a .xs)) (l .i) (c .before .before .loop-test .taken), l .inv .1 .1 .0))
 
--- src/number.rt:39:14
 add-to : tie.Need-add-to Inv-loop μ-loop
 add-to c =
     let a = c .before .before .before .before .before .before .before .before .before .args in
     let l = c .before .before .before .before .before .before .loop in
     omega (arith, length-left (a .w) (now (a .xs)) (l .i) (c .before .before .before .before .before .loop-test .taken), l .inv .1 .1 .0, l .inv .1 .0)
 
--- src/number.rt:40:9
 add-i : tie.Need-add-i Inv-loop μ-loop
 add-i c = search needs
 
--- src/number.rt:37:5
 loop-less : tie.Need-loop-less Inv-loop μ-loop
 loop-less c = search needs
 
--- src/number.rt:37:5
 loop-again : tie.Need-loop-again Inv-loop μ-loop
 loop-again c =
     let a = c .before .before .before .before .before .before .before .before .before .args in
@@ -73,11 +63,9 @@ loop-again c =
       ),
     )
 
--- src/number.rt:31:1
 same-length : tie.Need-same-length Inv-loop μ-loop
 same-length c = c .before .loop .inv .1 .0
 
--- src/number.rt:31:1
 returns : tie.Need-returns Inv-loop μ-loop
 returns c =
     let l = c .before .loop in

@@ -10,6 +10,7 @@ use field::DATA;
 use field::count_fits;
 use fields::Singles;
 use fields::put_fields;
+use frame::table::length_fits;
 
 // The frame of a data message, written to the front of the output: 0; 5 where n is not 2 to 8, 13 where the data are
 // over 48 bytes, 16 where the output is too short. The first n of ack count.

@@ -55,7 +55,10 @@ add-if3-2 : tie.Need-add-if3-2
 add-if3-2 c = omega (arith, few (c .before .before), short c)
 
 returns-3 : tie.Need-returns-3
-returns-3 c = data-16 _ _ _ (counted (c .before .before .before)) (fitting (c .before)) (c .if3 .taken)
+returns-3 c =
+    let a = c .before .before .before .before .before .before .before .before .args in
+    let m = messageOf (a .cid) (a .src) (a .seq) (take (a .n) (now (a .ack))) (a .buf) (now (a .text)) in
+    data-16 (a .n) m (now (a .out)) (counted (c .before .before .before)) (fitting (c .before)) (omega arith)
 
 slice-aggregate-put-fields : tie.Need-slice-aggregate-put-fields
 slice-aggregate-put-fields c = sym (count (c .before .before .before .before .before))
@@ -66,7 +69,7 @@ put-fields-requires c κs =
     let f = c .before .before .before .before .before .before .before .before .before .before .fits in
     let m = messageOf (a .cid) (a .src) (a .seq) (take (a .n) (now (a .ack))) (a .buf) (now (a .text)) in
     data-room (a .n) (counted (c .before .before .before .before .before)) (now (a .out)) m (count (c .before .before .before .before .before)) (omega (arith, f .cid)) (omega (arith, f .src)) (omega (arith, f .seq)) (omega (arith, f .buf))
-    (short (c .before .before .before)) (c .before .before .if3 .left)
+    (short (c .before .before .before)) (omega arith)
 
 same-length : tie.Need-same-length
 same-length c = search needs

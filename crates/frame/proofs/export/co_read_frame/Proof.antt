@@ -1,5 +1,7 @@
 -- `co_read_frame` meets its contract: one law of `Handing` for each way out.
 use borrow.Author.Needs.{needs}
+use native.Mathlib.Omega.{arith}
+use denote.Ref.{now}
 use Rattle.frame.proofs.Handing.{acks-eight, refused-out, no-room, handed-out}
 use Rattle.frame.proofs.export.co_read_frame.Statement.{statement}
 use Rattle.frame.proofs.export.co_read_frame.Tie as tie
@@ -11,10 +13,10 @@ returns : tie.Need-returns
 returns c = refused-out _ _ (c .before .read .ensures) _ (c .if1 .taken)
 
 returns-2 : tie.Need-returns-2
-returns-2 c = no-room _ _ (c .before .before .read .ensures) _ (c .before .if1 .left) (c .if2 .taken)
+returns-2 c = no-room _ _ (c .before .before .read .ensures) (now (c .before .before .before .before .before .args .numbers)) (c .before .if1 .left) (omega arith)
 
 hand-out-requires : tie.Need-hand-out-requires
-hand-out-requires c κs = (c .before .if2 .left, acks-eight _ _ (c .before .before .before .read .ensures))
+hand-out-requires c κs = (omega arith, acks-eight _ _ (c .before .before .before .read .ensures))
 
 same-length : tie.Need-same-length
 same-length c = search needs

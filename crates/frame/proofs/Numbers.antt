@@ -2,7 +2,7 @@
 use mathlib.Core.Bool.{Bool, true, false, _&&_}
 use mathlib.Core.Logic.{_≢_}
 use mathlib.Core.List.{List, [], _∷_, _++_, append-assoc}
-use mathlib.Core.Path.{_≡_, sym, ap, subst, _∙_}
+use mathlib.Core.Path.{_≡_, refl, sym, ap, subst, _∙_}
 use Prim.Native.Nat.{ℕ, suc, _+_, _-_, _*_, _/_, _^_, _≤_, _<_}
 use native.Mathlib.Nat.{pow-le-pow-right}
 use native.Mathlib.Omega.{arith}
@@ -17,19 +17,31 @@ use Rattle.frame.specs.Acks.{eight, acksOf}
 
 -- ---- a number of w bytes, j of which are read
 
-pub room : (w j x : ℕ) → w ≤ 4 → j < w → x < 256 ^ j → x < 16777216
-room w j x a b h = omega (arith, pow-le-pow-right {n = 256} (omega arith) {i = j} {j = 3} (omega arith))
+pub record Summed (s : List ℕ) (p w x j : ℕ) : Type 0 where
+  pub few : j ≤ w
+  pub is : x ≡ number (take j (drop p s))
+  pub small : x < 256 ^ j
 
-module _ (s : List ℕ) (p j x b : ℕ) (e : x ≡ number (take j (drop p s))) (h : p + j < length s) (f : b ≡ getD s (p + j) 0) where
-  pub one-more : x * 256 + b ≡ number (take (j + 1) (drop p s))
-  one-more =
+pub none-summed : (s : List ℕ) (p w : ℕ) → Summed s p w 0 0
+none-summed s p w = record { few = omega arith; is = refl; small = omega arith }
+
+module _ (s : List ℕ) (p w x j : ℕ) (r : Summed s p w x j) where
+  pub small-yet : w ≤ 4 → j < w → x < 16777216
+  small-yet h g = omega (arith, r .small, pow-le-pow-right {n = 256} (omega arith) {i = j} {j = 3} (omega arith))
+
+  pub one-summed : (b : ℕ) → p + w ≤ length s → j < w → b ≡ getD s (p + j) 0 → b < 256 → Summed s p w (x * 256 + b) (j + 1)
+  one-summed b h g e f =
       let next : j + 1 ≡ suc j = omega arith in
-      rw (next, take-suc (drop p s) j 0 (rw length-drop (omega arith)), number-++, getD-drop) (omega arith)
+      record {
+        few = omega arith;
+        is = rw (next, take-suc (drop p s) j 0 (rw length-drop (omega arith)), number-++, getD-drop) (omega (arith, r .is));
+        small = rw next (omega (arith, r .small));
+      }
 
-pub one-more-fits : (j x b : ℕ) → x < 256 ^ j → b < 256 → x * 256 + b < 256 ^ (j + 1)
-one-more-fits j x b h g =
-    let next : j + 1 ≡ suc j = omega arith in
-    rw next (omega arith)
+  pub all-summed : w ≤ j → x ≡ number (take w (drop p s))
+  all-summed h =
+      let e : j ≡ w = omega (arith, r .few) in
+      r .is ∙ ap (λ n. number (take n (drop p s))) e
 
 -- ---- the eight numbers, i of which are read
 

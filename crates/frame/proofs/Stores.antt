@@ -1,10 +1,10 @@
 -- Runs of stores: `sets d at l` stores l from `at` on.
 use mathlib.Core.List.{List, [], _∷_, _++_}
-use mathlib.Core.Path.{_≡_, refl, ap, _∙_}
+use mathlib.Core.Path.{_≡_, refl, sym, ap, _∙_}
 use Prim.Native.Nat.{ℕ, suc, _+_, _≤_, _<_}
 use native.Mathlib.Nat.{add-zero}
 use native.Mathlib.Omega.{arith}
-use lib.ListN.{length, getD, drop, set}
+use lib.ListN.{length, getD, drop, set, length-set}
 use lib.Seq.{sets, sets-eq, set-comm, drop-cons, drop-length}
 use Rattle.rules.specs.Calls.{written}
 
@@ -27,13 +27,28 @@ sets-written d l h =
     let place : 0 + length l ≡ length l = omega arith in
     sets-eq l d 0 (omega arith) ∙ rw place
 
--- a turn of a loop that stores the numbers of l one after the other, and its end
-module _ (d : List ℕ) (at i : ℕ) (l : List ℕ) where
-  pub store-one : i < length l → sets (set d (at + i) (getD l i 0)) (at + (i + 1)) (drop (i + 1) l) ≡ sets d (at + i) (drop i l)
-  store-one h =
+-- ---- a loop that stores the numbers of l one after the other from `at` on: i are stored
+
+pub record Stored (d₀ : List ℕ) (at : ℕ) (l d : List ℕ) (i : ℕ) : Type 0 where
+  pub count : i ≤ length l
+  pub long : length d ≡ length d₀
+  pub rest : sets d (at + i) (drop i l) ≡ sets d₀ at l
+
+pub none-stored : (d : List ℕ) (at : ℕ) (l : List ℕ) → Stored d at l d 0
+none-stored d at l = record { count = omega arith; long = refl; rest = rw add-zero }
+
+module _ (d₀ : List ℕ) (at : ℕ) (l d : List ℕ) (i : ℕ) (s : Stored d₀ at l d i) where
+  pub one-stored : i < length l → Stored d₀ at l (set d (at + i) (getD l i 0)) (i + 1)
+  one-stored h =
       let place : at + (i + 1) ≡ suc (at + i) = omega arith in
       let next : i + 1 ≡ suc i = omega arith in
-      rw (place, next, drop-cons l i 0 h)
+      record {
+        count = omega arith;
+        long = length-set d (at + i) (getD l i 0) ∙ s .long;
+        rest = rw (place, next) (ap (sets d (at + i)) (sym (drop-cons l i 0 h)) ∙ s .rest);
+      }
 
-  pub store-none : i ≡ length l → d ≡ sets d (at + i) (drop i l)
-  store-none e = rw (e, drop-length l)
+  pub all-stored : length l ≤ i → d ≡ sets d₀ at l
+  all-stored h =
+      let e : i ≡ length l = omega (arith, s .count) in
+      ap (λ r. sets d (at + i) r) (sym (ap (λ k. drop k l) e ∙ drop-length l)) ∙ s .rest

@@ -49,17 +49,17 @@ length-field : (t : ℕ) (v : List ℕ) → length (fieldOf t v) ≡ sizeOf t v
 length-field t v = omega (arith, length-allBytes (rowOf table t .width) v)
 
 module _ (f : ℕ → List ℕ) (t k : ℕ) (low : 1 ≤ t) (high : t ≤ 10) (d : List ℕ) (p : ℕ) (whole : List ℕ) (l : Left f (tagsLeft table t k) d p whole) where
-  pub passed : has t k ≡ false → Left f (tagsLeft table (t + 1) k) d p whole
+  passed : has t k ≡ false → Left f (tagsLeft table (t + 1) k) d p whole
   passed n = subst (λ ts. Left f ts d p whole) (tags-step t k low high false n) l
 
   module _ (y : has t k ≡ true) where
     here : Left f (t ∷ tagsLeft table (t + 1) k) d p whole
     here = subst (λ ts. Left f ts d p whole) (tags-step t k low high true y) l
 
-    pub field-room : FieldRoom t (f t) p d
+    field-room : FieldRoom t (f t) p d
     field-room = record { content = here .contents .0; room = omega (arith, here .room) }
 
-    pub laid : (r : ℕ) (d′ : List ℕ) → FieldWritten t (f t) p d r d′ → length d′ ≡ length d → Left f (tagsLeft table (t + 1) k) d′ r whole
+    laid : (r : ℕ) (d′ : List ℕ) → FieldWritten t (f t) p d r d′ → length d′ ≡ length d → Left f (tagsLeft table (t + 1) k) d′ r whole
     laid r d′ w e =
         let ts = tagsLeft table (t + 1) k in
         let rest = print table ts (map f ts) in
@@ -73,16 +73,42 @@ module _ (f : ℕ → List ℕ) (t k : ℕ) (low : 1 ≤ t) (high : t ≤ 10) (d
               ∙ here .rest;
         }
 
-pub none-left : (f : ℕ → List ℕ) (t k : ℕ) → t ≡ 11 → (d : List ℕ) (p : ℕ) (whole : List ℕ) → Left f (tagsLeft table t k) d p whole → d ≡ whole
-none-left f t k e d p whole l = subst (λ ts. Left f ts d p whole) (tags-end t k e) l .rest
+-- ---- the loop: the fields of the tags below `tag` are written, up to `at`
 
--- at the start all is left
-pub all-left : (m : Singles) (ack text d : List ℕ) → FieldsRoom m ack text d → Each (λ x. x < 256 ^ 4) ack → Bytes text
-    → Left (contentOf m ack text) (tagsLeft table 1 (m .kind)) d 0 (sets d 0 (fieldsOf m ack text))
+pub record Ahead (m : Singles) (ack text d₀ d : List ℕ) (at tag : ℕ) : Type 0 where
+  pub low : 1 ≤ tag
+  pub high : tag ≤ 11
+  pub long : length d ≡ length d₀
+  pub left : Left (contentOf m ack text) (tagsLeft table tag (m .kind)) d at (sets d₀ 0 (fieldsOf m ack text))
+
+pub all-ahead : (m : Singles) (ack text d : List ℕ) → FieldsRoom m ack text d → Each (λ x. x < 256 ^ 4) ack → Bytes text → Ahead m ack text d d 0 1
 unfolding tagsOf
-all-left m ack text d r a b =
+all-ahead m ack text d r a b =
     record {
-      contents = r .contents a b;
-      room = omega (arith, r .room, length-print table (tagsOf table (m .kind)) (contentsOf m ack text));
-      rest = refl;
+      low = omega arith;
+      high = omega arith;
+      long = refl;
+      left =
+          record {
+            contents = r .contents a b;
+            room = omega (arith, r .room, length-print table (tagsOf table (m .kind)) (contentsOf m ack text));
+            rest = refl;
+          };
     }
+
+module _ (m : Singles) (ack text d₀ d : List ℕ) (at tag : ℕ) (r : Ahead m ack text d₀ d at tag) where
+  module _ (h : tag ≤ 10) where
+    pub passed-by : has tag (m .kind) ≡ false → Ahead m ack text d₀ d at (tag + 1)
+    passed-by n =
+        record { low = omega arith; high = omega arith; long = r .long; left = passed _ tag (m .kind) (r .low) h d at _ (r .left) n }
+
+    pub room-ahead : has tag (m .kind) ≡ true → FieldRoom tag (contentOf m ack text tag) at d
+    room-ahead y = field-room _ tag (m .kind) (r .low) h d at _ (r .left) y
+
+    pub one-laid : has tag (m .kind) ≡ true → (next : ℕ) (d′ : List ℕ) → FieldWritten tag (contentOf m ack text tag) at d next d′ → length d′ ≡ length d
+        → Ahead m ack text d₀ d′ next (tag + 1)
+    one-laid y next d′ w k =
+        record { low = omega arith; high = omega arith; long = k ∙ r .long; left = laid _ tag (m .kind) (r .low) h d at _ (r .left) y next d′ w k }
+
+  pub none-ahead : tag ≡ 11 → d ≡ sets d₀ 0 (fieldsOf m ack text)
+  none-ahead e = subst (λ ts. Left (contentOf m ack text) ts d at (sets d₀ 0 (fieldsOf m ack text))) (tags-end tag (m .kind) e) (r .left) .rest

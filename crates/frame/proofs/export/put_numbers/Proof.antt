@@ -1,24 +1,20 @@
 -- `put_numbers` meets its contract. The invariant: storing what is left gives the whole.
 use borrow.Author.Needs.{needs}
 use native.Mathlib.Omega.{arith}
-use Prim.Native.Nat.{_+_, _-_, _≤_}
-use native.Mathlib.Nat.{add-zero}
-use mathlib.Core.Path.{_≡_, refl, _∙_}
-use lib.ListN.{length, drop, length-set}
-use lib.Seq.{sets}
-use denote.Ref.{now}
-use Rattle.frame.proofs.Stores.{store-one, store-none}
+use Prim.Native.Nat.{_-_}
+use lib.ListN.{length}
+use Rattle.frame.proofs.Stores.{Stored, none-stored, one-stored, all-stored}
 use Rattle.frame.proofs.export.put_numbers.Statement.{statement}
 use Rattle.frame.proofs.export.put_numbers.Tie as tie
 
 abbrev Inv-loop : tie.InvT-loop
-Inv-loop out₀ at a i₀ out i = (i ≤ length a) × ((length out ≡ length out₀) × (sets out (at + i) (drop i a) ≡ sets out₀ at a))
+Inv-loop out₀ at a i₀ out i = Stored out₀ at a out i
 
 abbrev μ-loop : tie.MeasureT-loop
 μ-loop out₀ at a i₀ out i = length a - i
 
 loop-holds : tie.Need-loop-holds Inv-loop μ-loop
-loop-holds c = (omega arith, (refl, rw add-zero))
+loop-holds c = none-stored _ _ _
 
 mul-out : tie.Need-mul-out Inv-loop μ-loop
 mul-out c = search needs
@@ -45,18 +41,13 @@ loop-less : tie.Need-loop-less Inv-loop μ-loop
 loop-less c = search needs
 
 loop-again : tie.Need-loop-again Inv-loop μ-loop
-loop-again c =
-    let l = c .before .before .loop in
-    (omega arith, (simp length-set (l .inv .1 .0), store-one _ _ _ _ (c .before .loop-test .taken) ∙ l .inv .1 .1))
+loop-again c = one-stored _ _ _ _ _ (c .before .before .loop .inv) (c .before .loop-test .taken)
 
 same-length : tie.Need-same-length Inv-loop μ-loop
-same-length c = c .before .loop .inv .1 .0
+same-length c = c .before .loop .inv .long
 
 returns : tie.Need-returns Inv-loop μ-loop
-returns c =
-    let l = c .before .loop in
-    let a = c .before .before .args in
-    store-none (l .out) (a .at) (l .i) (now (a .a)) (omega arith) ∙ l .inv .1 .1
+returns c = all-stored _ _ _ _ _ (c .before .loop .inv) (c .loop-test .left)
 
 pub put-numbers-spec : {M : Type 1} → statement M
 put-numbers-spec =

@@ -1,28 +1,22 @@
 -- `number_at` meets its contract. The invariant: x is the number of the j bytes read.
 use borrow.Author.Needs.{needs}
 use native.Mathlib.Omega.{arith}
-use Prim.Native.Nat.{_^_, _-_, _≤_, _<_}
-use mathlib.Core.Path.{_≡_, refl, ap, _∙_}
-use lib.ListN.{take, drop}
-use denote.Ref.{now}
-use Rattle.frame.proofs.Numbers.{room, one-more, one-more-fits}
-use Rattle.rules.specs.Bytes.{number}
+use Prim.Native.Nat.{_-_}
+use Rattle.frame.proofs.Numbers.{Summed, none-summed, small-yet, one-summed, all-summed}
 use Rattle.frame.proofs.number.number_at.Statement.{statement}
 use Rattle.frame.proofs.number.number_at.Tie as tie
 
 abbrev Inv-loop : tie.InvT-loop
-Inv-loop s at w x₀ j₀ x j = (j ≤ w) × ((x ≡ number (take j (drop at s))) × (x < 256 ^ j))
+Inv-loop s at w x₀ j₀ x j = Summed s at w x j
 
 abbrev μ-loop : tie.MeasureT-loop
 μ-loop s at w x₀ j₀ x j = w - j
 
 loop-holds : tie.Need-loop-holds Inv-loop μ-loop
-loop-holds c = (omega arith, (refl, omega arith))
+loop-holds c = none-summed _ _ _
 
 mul-x : tie.Need-mul-x Inv-loop μ-loop
-mul-x c =
-    let l = c .before .loop in
-    omega (arith, room _ (l .j) (l .x) (c .before .before .before .pre .0) (c .loop-test .taken) (l .inv .1 .1))
+mul-x c = omega (arith, small-yet _ _ _ _ _ (c .before .loop .inv) (c .before .before .before .pre .0) (c .loop-test .taken))
 
 add-wide : tie.Need-add-wide Inv-loop μ-loop
 add-wide c = search needs
@@ -34,9 +28,7 @@ wide-requires : tie.Need-wide-requires Inv-loop μ-loop
 wide-requires c κs = search needs
 
 add-x : tie.Need-add-x Inv-loop μ-loop
-add-x c =
-    let l = c .before .before .before .loop in
-    omega (arith, room _ (l .j) (l .x) (c .before .before .before .before .before .pre .0) (c .before .before .loop-test .taken) (l .inv .1 .1))
+add-x c = omega (arith, small-yet _ _ _ _ _ (c .before .before .before .loop .inv) (c .before .before .before .before .before .pre .0) (c .before .before .loop-test .taken))
 
 add-j : tie.Need-add-j Inv-loop μ-loop
 add-j c = search needs
@@ -46,22 +38,11 @@ loop-less c = search needs
 
 loop-again : tie.Need-loop-again Inv-loop μ-loop
 loop-again c =
-    let l = c .before .before .before .loop in
-    let a = c .before .before .before .before .before .args in
-    let b = c .wide .ensures in (
-      omega arith,
-      (
-        one-more (now (a .s)) (a .at) (l .j) (l .x) (c .wide .result) (l .inv .1 .0) (omega arith) (b .0),
-        one-more-fits (l .j) (l .x) (c .wide .result) (l .inv .1 .1) (b .1),
-      ),
-    )
+    let e = c .wide .ensures in
+    one-summed _ _ _ _ _ (c .before .before .before .loop .inv) _ (c .before .before .before .before .before .pre .1) (c .before .before .loop-test .taken) (e .0) (e .1)
 
 returns : tie.Need-returns Inv-loop μ-loop
-returns c =
-    let l = c .before .loop in
-    let a = c .before .before .before .args in
-    let e : l .j ≡ a .w = omega arith in
-    l .inv .1 .0 ∙ ap (λ n. number (take n (drop (a .at) (now (a .s))))) e
+returns c = all-summed _ _ _ _ _ (c .before .loop .inv) (c .loop-test .left)
 
 pub number-at-spec : {M : Type 1} → statement M
 number-at-spec =

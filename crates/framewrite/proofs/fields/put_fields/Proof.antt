@@ -4,46 +4,34 @@ use native.Mathlib.Omega.{arith}
 use Prim.Native.Nat.{ℕ, _+_, _-_, _≤_}
 use mathlib.Core.List.{List}
 use mathlib.Core.Logic.{⊎-elim}
-use mathlib.Core.Path.{_≡_, refl, sym, _∙_, subst⁻¹}
-use lib.ListN.{length}
-use lib.Seq.{sets}
+use mathlib.Core.Path.{sym, _∙_, subst⁻¹}
 use denote.Ref.{now}
+use Rattle.framewrite.proofs.Rest.{Ahead, all-ahead, passed-by, room-ahead, one-laid, none-ahead}
 use Rattle.rules.proofs.BytesLaws.{each-intro}
-use Rattle.framewrite.proofs.Rest.{Left, all-left, passed, field-room, laid, none-left}
-use Rattle.framewrite.specs.Fields.{contentOf, fieldsOf}
-use Rattle.rules.proofs.FieldsLaws.{tagsLeft}
-use Rattle.rules.specs.Fields.{table}
 use Rattle.framewrite.proofs.fields.put_fields.Statement.{statement}
 use Rattle.framewrite.proofs.fields.put_fields.Tie as tie
 
 abbrev Inv-loop : tie.InvT-loop
-Inv-loop d₀ m ack text kind at₀ tag₀ d at tag = (1 ≤ tag) × ((tag ≤ 11) × ((length d ≡ length d₀) × Left (contentOf m ack text) (tagsLeft table tag (m .kind)) d at (sets d₀ 0 (fieldsOf m ack text))))
+Inv-loop d₀ m ack text kind at₀ tag₀ d at tag = Ahead m ack text d₀ d at tag
 
 abbrev μ-loop : tie.MeasureT-loop
 μ-loop d₀ m ack text kind at₀ tag₀ d at tag = 11 - tag
 
 loop-holds : tie.Need-loop-holds Inv-loop μ-loop
 loop-holds c =
-    let a = c .before .before .before .args in (
-      omega arith,
-      (
-        omega arith,
-        (
-          refl,
-          all-left (a .m) (now (a .ack)) (now (a .text)) (now (a .d)) (c .before .before .before .pre)
-              (each-intro _ (now (a .ack)) (λ i h. omega (arith, c .before .shared-slice-known .given i)))
-              (each-intro _ (now (a .text)) (λ i h. omega (arith, c .shared-slice-known2 .given i))),
-        ),
-      ),
-    )
+    let a = c .before .before .before .args in
+    all-ahead (a .m) (now (a .ack)) (now (a .text)) (now (a .d)) (c .before .before .before .pre)
+    (each-intro _ (now (a .ack)) (λ i h. omega (arith, c .before .shared-slice-known .given i)))
+    (each-intro _ (now (a .text)) (λ i h. omega (arith, c .shared-slice-known2 .given i)))
 
 has-tag-requires : tie.Need-has-tag-requires Inv-loop μ-loop
 has-tag-requires c κs = search needs
 
 put-tag-requires : tie.Need-put-tag-requires Inv-loop μ-loop
 put-tag-requires c κs =
-    let i = c .before .before .before .before .loop .inv in
-    field-room _ _ _ (i .0) (c .before .before .before .loop-test .taken) _ _ _ (i .1 .1 .1) (sym (c .before .before .has-tag .ensures) ∙ c .before .if1 .taken)
+    let l = c .before .before .before .before .loop in
+    let t : l .tag ≤ 10 = omega arith in
+    room-ahead _ _ _ _ _ _ _ (l .inv) t (sym (c .before .before .has-tag .ensures) ∙ c .before .if1 .taken)
 
 add-tag : tie.Need-add-tag Inv-loop μ-loop
 add-tag c = search needs
@@ -55,34 +43,23 @@ loop-again : tie.Need-loop-again Inv-loop μ-loop
 loop-again c =
     let l = c .before .before .before .loop in
     let a = c .before .before .before .before .before .before .before .args in
-    let t = c .before .before .loop-test .taken in
-    let i = l .inv in
-    let f = contentOf (a .m) (now (a .ack)) (now (a .text)) in
-    let whole = sets (now (a .d)) 0 (fieldsOf (a .m) (now (a .ack)) (now (a .text))) in
-    let Next : List ℕ → ℕ → Type 0 =
-    λ d p. (length d ≡ length (now (a .d))) × Left f (tagsLeft table (l .tag + 1) (a .m .kind)) d p whole in
-    let next : Next (c .if1 .d) (c .if1 .at) =
+    let t : l .tag ≤ 10 = omega arith in
+    let Next : List ℕ → ℕ → Type 0 = λ d at. Ahead (a .m) (now (a .ack)) (now (a .text)) (now (a .d)) d at (l .tag + 1) in
     ⊎-elim
     (λ w.
-    let y = sym (c .before .has-tag .ensures) ∙ w .0 .taken in
-    let k = w .2 .kept .0 in
     subst⁻¹ (λ d. Next d (c .if1 .at)) (w .5)
     (subst⁻¹ (Next (w .2 .last .0)) (w .6)
-    (k ∙ i .1 .1 .0, laid f (l .tag) (a .m .kind) (i .0) t (l .d) (l .at) whole (i .1 .1 .1) y (w .2 .result) (w .2 .last .0) (w .2 .ensures) k)))
+    (one-laid _ _ _ _ _ _ _ (l .inv) t (sym (c .before .has-tag .ensures) ∙ w .0 .taken) (w .2 .result) (w .2 .last .0) (w .2 .ensures) (w .2 .kept .0))))
     (λ w.
-    let n = sym (c .before .has-tag .ensures) ∙ w .0 .left in
     subst⁻¹ (λ d. Next d (c .if1 .at)) (w .1)
-    (subst⁻¹ (Next (l .d)) (w .2) (i .1 .1 .0, passed f (l .tag) (a .m .kind) (i .0) t (l .d) (l .at) whole (i .1 .1 .1) n)))
-    (c .if1 .came) in
-    (omega arith, (omega arith, next))
+    (subst⁻¹ (Next (l .d)) (w .2) (passed-by _ _ _ _ _ _ _ (l .inv) t (sym (c .before .has-tag .ensures) ∙ w .0 .left))))
+    (c .if1 .came)
 
 same-length : tie.Need-same-length Inv-loop μ-loop
-same-length c = c .before .loop .inv .1 .1 .0
+same-length c = c .before .loop .inv .long
 
 returns : tie.Need-returns Inv-loop μ-loop
-returns c =
-    let l = c .before .loop in
-    none-left _ (l .tag) _ (omega arith) _ _ _ (l .inv .1 .1 .1)
+returns c = none-ahead _ _ _ _ _ _ _ (c .before .loop .inv) (omega arith)
 
 pub put-fields-spec : {M : Type 1} → statement M
 put-fields-spec =

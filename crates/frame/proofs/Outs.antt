@@ -10,85 +10,108 @@ use lib.ListN.{length, getD, take, drop, length-drop}
 use lib.Seq.{take-all}
 use Rattle.rules.specs.Bytes.{number, allNumbers}
 use Rattle.rules.specs.Fields.{table, tagsOf, fits}
-use Rattle.rules.specs.Message.{Message, Said, message, request, last, edition, asMessage, asRequest, decode}
+use Rattle.rules.specs.Message.{Message, Said, message, request, last, edition, noZero, inLimits, asMessage, asRequest, decode}
 use Rattle.rules.proofs.BytesLaws.{length-allNumbers, allNumbers-one}
 use Rattle.rules.proofs.MessageLaws.{Read, decode-read, message-limits, request-limits, message-inLimits, request-inLimits}
 use Rattle.frame.specs.declared.Frame.{Frame}
 use Rattle.frame.specs.declared.number.Acks.{Acks}
 use Rattle.frame.specs.Acks.{countAt, acksAt, acksOf, AckFits}
-use Rattle.frame.specs.Frame.{frameOf, payloadOf}
+use Rattle.frame.specs.Frame.{frameOf, commonOf, payloadOf}
 use Rattle.frame.proofs.Reading.{Seen, not-seen, messageAt, requestAt, message-is, data-at, request-at, is-message, not-message, is-request, not-request}
+
+-- ---- what both kinds share: y is what l says where it is within the limits, and its ACK stands at p
+
+module _ (l : List ℕ) (p : ℕ) (y : Said) (acks : inLimits y ≡ true → noZero (acksAt l p) ≡ true) (no-frame : (inLimits y ≡ true → ⊥) → decode l ≡ none) where
+  out-of-limits : (inLimits y ≡ true → ⊥) → frameOf none ≡ frameOf (decode l)
+  out-of-limits h = ap frameOf (sym (no-frame h))
+
+  zero-ack : (a : Acks) → a ≡ acksOf l p → a .ok ≡ false → frameOf none ≡ frameOf (decode l)
+  unfolding acksOf
+  zero-ack a e z = out-of-limits (λ h. false≢true (sym z ∙ ap (λ (x : Acks). x .ok) e ∙ acks h))
+
+room-after : (l : List ℕ) (p q : ℕ) → q + 4 * countAt l p ≤ length l → (a : Acks) → a ≡ acksOf l p → q + 4 * a .n ≤ length l
+unfolding acksOf
+room-after l p q h a e = omega (arith, h, ap (λ (x : Acks). x .n) e)
+
+tested : (l : List ℕ) (p : ℕ) (a : Acks) → a ≡ acksOf l p → a .ok ≡ true → noZero (acksAt l p) ≡ true
+unfolding acksOf
+tested l p a e t = ap (λ (x : Acks). x .ok) (sym e) ∙ t
 
 -- ---- read_data
 
+abbrev withData : Frame → ℕ → ℕ → ℕ → ℕ → Frame
+withData f seq buf start len =
+    record {
+      answer = f .answer;
+      kind = f .kind;
+      cid = f .cid;
+      src = f .src;
+      seq = seq;
+      n = f .n;
+      ack = f .ack;
+      buf = buf;
+      lsrc = f .lsrc;
+      lseq = f .lseq;
+      start = start;
+      len = len;
+    }
+
 module _ (l : List ℕ) (f : fits table (tagsOf table 1) l ≡ true) where
   pub data-acks : AckFits l 27
-  data-acks =
-      let p = data-at l f in
-      record { few = p .few; inside = omega (arith, p .long) }
+  data-acks = record { few = data-at l f .few; inside = omega (arith, data-at l f .long) }
 
   pub data-room : (a : Acks) → a ≡ acksOf l 27 → 37 + 4 * a .n ≤ length l
-  unfolding acksOf
-  data-room a e = omega (arith, data-at l f .long, ap (λ (x : Acks). x .n) e)
+  data-room = room-after l 27 37 (data-at l f .long)
 
   module _ (e : getD l 3 0 ≡ edition) (k : getD l 7 0 ≡ 1) (a : Acks) (ea : a ≡ acksOf l 27) where
-    tested : acksOf l 27 .ok ≡ a .ok
-    tested = ap (λ (x : Acks). x .ok) (sym ea)
-
-    pub zero-ack : a .ok ≡ false → frameOf none ≡ frameOf (decode l)
-    unfolding acksOf
-    zero-ack z = ap frameOf (sym (not-message l f e k (λ h. false≢true (sym z ∙ sym tested ∙ message-limits _ h .0))))
+    pub data-zero-ack : a .ok ≡ false → frameOf none ≡ frameOf (decode l)
+    data-zero-ack = zero-ack l 27 (message (messageAt l)) (λ h. message-limits _ h .0) (not-message l f e k) a ea
 
     module _ (seq : ℕ) (es : seq ≡ number (take 4 (drop 22 l))) where
       pub seq-out : (1 ≤ seq → seq < last → ⊥) → frameOf none ≡ frameOf (decode l)
       seq-out z =
-          ap frameOf
-          (sym (not-message l f e k (λ h. let m = message-limits (messageAt l) h in z (omega (arith, m .1)) (omega (arith, m .2)))))
+          out-of-limits l 27 (message (messageAt l)) (λ h. message-limits _ h .0) (not-message l f e k)
+          (λ h. let m = message-limits (messageAt l) h in z (omega (arith, m .1)) (omega (arith, m .2)))
 
-      pub a-message : a .ok ≡ true → 1 ≤ seq → seq < last → (cid src buf : ℕ) → cid ≡ number (take 4 (drop 11 l)) → src ≡ number (take 1 (drop 18 l))
-          → buf ≡ number (take 2 (drop (32 + 4 * a .n) l))
-          → record {
-            answer = 0;
-            kind = 1;
-            cid = cid;
-            src = src;
-            seq = seq;
-            n = a .n;
-            ack = a .all;
-            buf = buf;
-            lsrc = 0;
-            lseq = 0;
-            start = 37 + 4 * a .n;
-            len = length l - (37 + 4 * a .n);
-          }
-          ≡ frameOf (decode l)
-      unfolding acksOf frameOf
-      a-message ok low high cid src buf ec er eb =
-          let read = is-message l f e k (message-inLimits (messageAt l) (tested ∙ ok) (omega arith) (omega arith)) in
+      pub a-message : a .ok ≡ true → 1 ≤ seq → seq < last → (common : Frame) → common ≡ commonOf l 1 a → (buf : ℕ) → buf ≡ number (take 2 (drop (32 + 4 * a .n) l))
+          → withData common seq buf (37 + 4 * a .n) (length l - (37 + 4 * a .n)) ≡ frameOf (decode l)
+      unfolding acksOf frameOf commonOf
+      a-message ok low high common ec buf eb =
+          let read = is-message l f e k (message-inLimits (messageAt l) (tested l 27 a ea ok) (omega arith) (omega arith)) in
           let n-is : length (acksAt l 27) ≡ countAt l 27 = length-allNumbers 4 (countAt l 27) (drop 29 l) in
           let d = length l - (37 + 4 * countAt l 27) in
           let len-is : length (allNumbers 1 d (drop (37 + 4 * countAt l 27) l)) ≡ d = length-allNumbers 1 d (drop (37 + 4 * countAt l 27) l) in
-          rw (read, n-is, len-is, ec, er, es, eb, ea)
+          rw (read, n-is, len-is, ec, es, eb, ea)
 
 -- ---- read_request
 
+abbrev withAsked : Frame → ℕ → ℕ → Frame
+withAsked f lsrc lseq =
+    record {
+      answer = f .answer;
+      kind = f .kind;
+      cid = f .cid;
+      src = f .src;
+      seq = f .seq;
+      n = f .n;
+      ack = f .ack;
+      buf = f .buf;
+      lsrc = lsrc;
+      lseq = lseq;
+      start = f .start;
+      len = f .len;
+    }
+
 module _ (l : List ℕ) (f : fits table (tagsOf table 2) l ≡ true) where
   pub request-acks : AckFits l 20
-  request-acks =
-      let p = request-at l f in
-      record { few = p .few; inside = omega (arith, p .long) }
+  request-acks = record { few = request-at l f .few; inside = omega (arith, request-at l f .long) }
 
   pub request-room : (a : Acks) → a ≡ acksOf l 20 → 33 + 4 * a .n ≤ length l
-  unfolding acksOf
-  request-room a e = omega (arith, request-at l f .long, ap (λ (x : Acks). x .n) e)
+  request-room = room-after l 20 33 (request-at l f .long)
 
   module _ (e : getD l 3 0 ≡ edition) (k : getD l 7 0 ≡ 2) (a : Acks) (ea : a ≡ acksOf l 20) where
-    asked : acksOf l 20 .ok ≡ a .ok
-    asked = ap (λ (x : Acks). x .ok) (sym ea)
-
-    pub zero-request-ack : a .ok ≡ false → frameOf none ≡ frameOf (decode l)
-    unfolding acksOf
-    zero-request-ack z = ap frameOf (sym (not-request l f e k (λ h. false≢true (sym z ∙ sym asked ∙ request-limits _ h .0))))
+    pub request-zero-ack : a .ok ≡ false → frameOf none ≡ frameOf (decode l)
+    request-zero-ack = zero-ack l 20 (request (requestAt l)) (λ h. request-limits _ h .0) (not-request l f e k) a ea
 
     module _ (lseq : ℕ) (es : lseq ≡ number (take 4 (drop (29 + 4 * a .n) l))) where
       lseq-is : lseq ≡ requestAt l .lseq
@@ -97,30 +120,16 @@ module _ (l : List ℕ) (f : fits table (tagsOf table 2) l ≡ true) where
 
       pub lseq-out : lseq ≡ 0 → frameOf none ≡ frameOf (decode l)
       lseq-out z =
-          ap frameOf (sym (not-request l f e k (λ h. let m = request-limits (requestAt l) h in omega (arith, m .1, lseq-is))))
+          out-of-limits l 20 (request (requestAt l)) (λ h. request-limits _ h .0) (not-request l f e k)
+          (λ h. omega (arith, request-limits (requestAt l) h .1, lseq-is))
 
-      pub a-request : a .ok ≡ true → 1 ≤ lseq → (cid src lsrc : ℕ) → cid ≡ number (take 4 (drop 11 l)) → src ≡ number (take 1 (drop 18 l))
-          → lsrc ≡ number (take 1 (drop (25 + 4 * a .n) l))
-          → record {
-            answer = 0;
-            kind = 2;
-            cid = cid;
-            src = src;
-            seq = 0;
-            n = a .n;
-            ack = a .all;
-            buf = 0;
-            lsrc = lsrc;
-            lseq = lseq;
-            start = 0;
-            len = 0;
-          }
-          ≡ frameOf (decode l)
-      unfolding acksOf frameOf
-      a-request ok low cid src lsrc ec er el =
-          let read = is-request l f e k (request-inLimits (requestAt l) (asked ∙ ok) (omega (arith, lseq-is))) in
+      pub a-request : a .ok ≡ true → 1 ≤ lseq → (common : Frame) → common ≡ commonOf l 2 a → (lsrc : ℕ) → lsrc ≡ number (take 1 (drop (25 + 4 * a .n) l))
+          → withAsked common lsrc lseq ≡ frameOf (decode l)
+      unfolding acksOf frameOf commonOf
+      a-request ok low common ec lsrc el =
+          let read = is-request l f e k (request-inLimits (requestAt l) (tested l 20 a ea ok) (omega (arith, lseq-is))) in
           let n-is : length (acksAt l 20) ≡ countAt l 20 = length-allNumbers 4 (countAt l 20) (drop 22 l) in
-          rw (read, n-is, ec, er, el, lseq-is, ea)
+          rw (read, n-is, ec, el, lseq-is, ea)
 
 -- ---- read
 

@@ -2,9 +2,11 @@
 use mathlib.Core.List.{List, []}
 use mathlib.Core.Option.{Option, none, some}
 use Prim.Native.Nat.{ℕ, _+_, _*_}
-use lib.ListN.{length}
+use lib.ListN.{length, take, drop}
+use Rattle.rules.specs.Bytes.{number}
 use Rattle.rules.specs.Message.{Said, message, request, kindOf}
 use Rattle.frame.specs.declared.Frame.{Frame}
+use Rattle.frame.specs.declared.number.Acks.{Acks}
 use Rattle.frame.specs.Acks.{eight}
 
 unfoldable pub frameOf : Option Said → Frame
@@ -50,6 +52,24 @@ frameOf (some (request r)) =
       buf = 0;
       lsrc = r .lsrc;
       lseq = r .lseq;
+      start = 0;
+      len = 0;
+    }
+
+-- what frames of both kinds say, the numbers of ACK being a: CID at 11, SRC at 18
+unfoldable pub commonOf : List ℕ → ℕ → Acks → Frame
+commonOf l k a =
+    record {
+      answer = 0;
+      kind = k;
+      cid = number (take 4 (drop 11 l));
+      src = number (take 1 (drop 18 l));
+      seq = 0;
+      n = a .n;
+      ack = a .all;
+      buf = 0;
+      lsrc = 0;
+      lseq = 0;
       start = 0;
       len = 0;
     }

@@ -4,9 +4,9 @@ use mathlib.Core.Bool.{Bool, true, false, cond, false≢true, _&&_}
 use mathlib.Core.List.{List, [], _∷_, _++_, append-assoc}
 use mathlib.Core.Path.{_≡_, refl, sym, ap, ap₂, _∙_, subst}
 use Prim.Native.Nat.{ℕ, zero, suc, _+_, _-_, _*_, _/_, _%_, _≤_, _<_}
-use native.Mathlib.Nat.{mul-div-right, mul-mod-right, div-add-mod}
+use native.Mathlib.Nat.{eq-of-mul-eq-mul-left, mul-div-right, mul-mod-right, div-add-mod}
 use native.Mathlib.Omega.{arith}
-use lib.Dec.{ltb, eqb·suc-zero}
+use lib.Dec.{eqb, ltb, eqb·suc-zero}
 use lib.ListN.{length, getD, take, drop, length-append, length-drop, take-append-drop}
 use lib.Seq.{length-take-le, drop-at, drop-cons, drop-drop, drop-length}
 use borrow.Author.Tests.{ltb-true, leb-true, eqb-true, le-leb, eq-eqb}
@@ -216,6 +216,41 @@ module _ (rs : List Row) (u : usable rs ≡ true) where
   contents-numbers (t ∷ ts) l b h =
       let k = and-both _ _ h in
       (content rs u t l b (is-field rs t l (k .0)), contents-numbers ts (drop (3 + lengthOf l) l) (each-drop (3 + lengthOf l) b) (k .1))
+
+-- ---- fields of one number
+
+-- where the table says one number, it alone
+abbrev pub alone : Row → List ℕ → List ℕ
+alone r v = cond (eqb (r .least) (r .width) && eqb (r .greatest) (r .width)) (getD v 0 0 ∷ []) v
+
+abbrev pub allAlone : List Row → List ℕ → List (List ℕ) → List (List ℕ)
+allAlone rs [] vs = []
+allAlone rs (t ∷ ts) [] = []
+allAlone rs (t ∷ ts) (v ∷ vs) = alone (rowOf rs t) v ∷ allAlone rs ts vs
+
+single : (v : List ℕ) → length v ≡ 1 → getD v 0 0 ∷ [] ≡ v
+single [] h = absurd (omega arith)
+single (x ∷ []) h = refl
+single (x ∷ y ∷ v) h = absurd (omega arith)
+
+alone-is : (r : Row) → Usable r → (v : List ℕ) → Content r v → alone r v ≡ v
+alone-is r u v k = go (eqb (r .least) (r .width) && eqb (r .greatest) (r .width)) refl
+  where
+    go : (b : Bool) → eqb (r .least) (r .width) && eqb (r .greatest) (r .width) ≡ b → cond b (getD v 0 0 ∷ []) v ≡ v
+    go false e = refl
+    go true e =
+        let same = and-both (eqb (r .least) (r .width)) (eqb (r .greatest) (r .width)) e in
+        let least : r .least ≡ r .width = eqb-true _ _ (same .0) in
+        let greatest : r .greatest ≡ r .width = eqb-true _ _ (same .1) in
+        let all : r .width * length v ≡ r .width * 1 = omega (arith, k .least, k .greatest) in
+        single v (eq-of-mul-eq-mul-left (r .width) (u .width) (length v) 1 all)
+
+module _ (rs : List Row) (u : usable rs ≡ true) where
+  pub allAlone-is : (ts : List ℕ) (vs : List (List ℕ)) → Contents rs ts vs → allAlone rs ts vs ≡ vs
+  allAlone-is [] [] k = refl
+  allAlone-is [] (v ∷ vs) k = absurd k
+  allAlone-is (t ∷ ts) [] k = absurd k
+  allAlone-is (t ∷ ts) (v ∷ vs) k = ap₂ _∷_ (alone-is (rowOf rs t) (usable-rowOf rs u t) v (k .0)) (allAlone-is ts vs (k .1))
 
 -- ---- the bytes of the fields, and how many
 

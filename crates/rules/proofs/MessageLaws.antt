@@ -3,7 +3,7 @@ use mathlib.Core.Bool.{Bool, true, false}
 use mathlib.Core.List.{List, [], _∷_}
 use mathlib.Core.Logic.{_⊎_, inl, inr, ⊎-elim}
 use mathlib.Core.Option.{Option, none, some}
-use mathlib.Core.Path.{_≡_, refl, sym, ap, subst, _∙_}
+use mathlib.Core.Path.{_≡_, refl, sym, ap, ap₂, subst, _∙_}
 use Prim.Native.Nat.{ℕ, _+_, _*_, _^_, _≤_, _<_}
 use native.Mathlib.Omega.{arith}
 use lib.Dec.{ltb}
@@ -14,7 +14,7 @@ use Rattle.rules.specs.Message.{Message, Request, Said, message, request
 use Rattle.rules.specs.Lawful.{Each, nil, cons, Bytes, Content, Contents, LawfulAck, Lawful}
 use Rattle.rules.proofs.MapsLaws.{and-both, and-false, and-intro}
 use Rattle.rules.proofs.BytesLaws.{each-at, each-map}
-use Rattle.rules.proofs.FieldsLaws.{usable, fits-print, numbers-print, print-numbers, contents-numbers, length-print, each-tagsFrom, each-print}
+use Rattle.rules.proofs.FieldsLaws.{usable, allAlone, allAlone-is, fits-print, numbers-print, print-numbers, contents-numbers, length-print, each-tagsFrom, each-print}
 
 -- ---- the table
 
@@ -192,16 +192,6 @@ decode-read l x h = go (readAs 1 asMessage l) refl h
     go (some y) e p = inl (read 1 asMessage l x (e ∙ p))
     go none e p = inr (read 2 asRequest l x p)
 
--- x is what the numbers v say, all of it
-record Whole (v : List (List ℕ)) (x : Said) : Type 0 where
-  pub numbers-are : numbersOf x ≡ v
-  pub lawful : Lawful x
-
-single : (v : List ℕ) → length v ≡ 1 → getD v 0 0 ∷ [] ≡ v
-single [] h = absurd (omega arith)
-single (x ∷ []) h = refl
-single (x ∷ y ∷ v) h = absurd (omega arith)
-
 each-noZero : {ack : List ℕ} → Each (λ x. x < 256 ^ 4) ack → noZero ack ≡ true → Each (λ x. (1 ≤ x) × (x ≤ last)) ack
 each-noZero nil h = nil
 each-noZero (cons {x = x} {l = l} p e) h =
@@ -216,101 +206,81 @@ lawful-ack k h = record { least = omega arith; greatest = omega arith; each = ea
 only : {r : Row} {v : List ℕ} → Content r v → 0 < length v → getD v 0 0 < 256 ^ r .width
 only k h = each-at (k .each) 0 h
 
-message-whole : (c₀ c₁ c₂ c₃ c₄ c₅ c₆ c₇ : List ℕ) → let v = c₀ ∷ c₁ ∷ c₂ ∷ c₃ ∷ c₄ ∷ c₅ ∷ c₆ ∷ c₇ ∷ [] in
-    Contents table (tagsOf table 1) v → one v 0 ≡ edition → one v 1 ≡ 1 → inLimits (asMessage v) ≡ true → Whole v (asMessage v)
-unfolding table tagsOf rowOf
-message-whole c₀ c₁ c₂ c₃ c₄ c₅ c₆ c₇ k e₀ e₁ h =
-    let k₂ = k .1 .1 in
-    let k₅ = k₂ .1 .1 .1 in
-    let limits = message-limits _ h in
-    record {
-      numbers-are =
-          cc (
-            single c₀ (omega arith),
-            single c₁ (omega arith),
-            single c₂ (omega arith),
-            single c₃ (omega arith),
-            single c₄ (omega arith),
-            single c₆ (omega arith),
-          );
-      lawful =
-          record {
-            cid = omega (arith, only (k₂ .0) (omega arith));
-            src = only (k₂ .1 .0) (omega arith);
-            seq-least = limits .1;
-            seq-greatest = limits .2;
-            ack = lawful-ack (k₅ .0) (limits .0);
-            buf = only (k₅ .1 .0) (omega arith);
-            short = omega (arith, k₅ .1 .1 .0 .greatest);
-            text = k₅ .1 .1 .0 .each;
-          };
-    }
-
-request-whole : (c₀ c₁ c₂ c₃ c₄ c₅ c₆ : List ℕ) → let v = c₀ ∷ c₁ ∷ c₂ ∷ c₃ ∷ c₄ ∷ c₅ ∷ c₆ ∷ [] in
-    Contents table (tagsOf table 2) v → one v 0 ≡ edition → one v 1 ≡ 2 → inLimits (asRequest v) ≡ true → Whole v (asRequest v)
-unfolding table tagsOf rowOf
-request-whole c₀ c₁ c₂ c₃ c₄ c₅ c₆ k e₀ e₁ h =
-    let k₂ = k .1 .1 in
-    let k₄ = k₂ .1 .1 in
-    let limits = request-limits _ h in
-    record {
-      numbers-are =
-          cc (
-            single c₀ (omega arith),
-            single c₁ (omega arith),
-            single c₂ (omega arith),
-            single c₃ (omega arith),
-            single c₅ (omega arith),
-            single c₆ (omega arith),
-          );
-      lawful =
-          record {
-            cid = omega (arith, only (k₂ .0) (omega arith));
-            src = only (k₂ .1 .0) (omega arith);
-            ack = lawful-ack (k₄ .0) (limits .0);
-            lsrc = only (k₄ .1 .0) (omega arith);
-            lseq-least = limits .1;
-            lseq-greatest = omega (arith, only (k₄ .1 .1 .0) (omega arith));
-          };
-    }
-
--- l is the frame of x
+-- l is the frame of x, which is lawful
 record IsFrame (l : List ℕ) (x : Said) : Type 0 where
   pub fit : fits table (tagsOf table (kindOf x)) l ≡ true
-  pub whole : Whole (numbers table (tagsOf table (kindOf x)) l) x
+  pub numbers-are : numbersOf x ≡ numbers table (tagsOf table (kindOf x)) l
+  pub lawful : Lawful x
 
 module _ (l : List ℕ) (b : Bytes l) (x : Said) where
+  module _ (k : ℕ) («as» : List (List ℕ) → Said) (r : Read k «as» l x) where
+    contents : Contents table (tagsOf table k) (numbers table (tagsOf table k) l)
+    contents = contents-numbers table table-usable (tagsOf table k) l b (r .fit)
+
+    -- after the edition and the kind, vs
+    same-numbers : (vs : List (List ℕ)) → let v = numbers table (tagsOf table k) l in
+        allAlone table (tagsOf table k) v ≡ (one v 0 ∷ []) ∷ (one v 1 ∷ []) ∷ vs → (edition ∷ []) ∷ (k ∷ []) ∷ vs ≡ v
+    same-numbers vs e =
+        let v = numbers table (tagsOf table k) l in
+        ap₂ (λ x y. (x ∷ []) ∷ (y ∷ []) ∷ vs) (sym (r .edition-is)) (sym (r .kind-is))
+        ∙ sym e
+        ∙ allAlone-is table table-usable (tagsOf table k) v contents
+
   from-message : Read 1 asMessage l x → IsFrame l x
-  unfolding table tagsOf
+  unfolding table tagsOf rowOf
   from-message r =
+      let k = contents 1 asMessage r .1 .1 in
+      let k₅ = k .1 .1 .1 in
+      let limits = message-limits _ (r .limits) in
       subst (IsFrame l) (r .same)
       (record {
         fit = r .fit;
-        whole =
-            message-whole _ _ _ _ _ _ _ _ (contents-numbers table table-usable (tagsOf table 1) l b (r .fit)) (r .edition-is) (r .kind-is) (r .limits);
+        numbers-are = same-numbers 1 asMessage r _ refl;
+        lawful =
+            record {
+              cid = omega (arith, only (k .0) (omega arith));
+              src = only (k .1 .0) (omega arith);
+              seq-least = limits .1;
+              seq-greatest = limits .2;
+              ack = lawful-ack (k₅ .0) (limits .0);
+              buf = only (k₅ .1 .0) (omega arith);
+              short = omega (arith, k₅ .1 .1 .0 .greatest);
+              text = k₅ .1 .1 .0 .each;
+            };
       })
 
   from-request : Read 2 asRequest l x → IsFrame l x
-  unfolding table tagsOf
+  unfolding table tagsOf rowOf
   from-request r =
+      let k = contents 2 asRequest r .1 .1 in
+      let k₄ = k .1 .1 in
+      let limits = request-limits _ (r .limits) in
       subst (IsFrame l) (r .same)
       (record {
         fit = r .fit;
-        whole =
-            request-whole _ _ _ _ _ _ _ (contents-numbers table table-usable (tagsOf table 2) l b (r .fit)) (r .edition-is) (r .kind-is) (r .limits);
+        numbers-are = same-numbers 2 asRequest r _ refl;
+        lawful =
+            record {
+              cid = omega (arith, only (k .0) (omega arith));
+              src = only (k .1 .0) (omega arith);
+              ack = lawful-ack (k₄ .0) (limits .0);
+              lsrc = only (k₄ .1 .0) (omega arith);
+              lseq-least = limits .1;
+              lseq-greatest = omega (arith, only (k₄ .1 .1 .0) (omega arith));
+            };
       })
 
   is-frame : decode l ≡ some x → IsFrame l x
   is-frame h = ⊎-elim from-message from-request (decode-read l x h)
 
   pub decode-lawful : decode l ≡ some x → Lawful x
-  decode-lawful h = is-frame h .whole .lawful
+  decode-lawful h = is-frame h .lawful
 
   pub encode-decode : decode l ≡ some x → encode x ≡ l
   unfolding encode
   encode-decode h =
       let f = is-frame h in
-      ap (print table (tagsOf table (kindOf x))) (f .whole .numbers-are) ∙ print-numbers table table-usable (tagsOf table (kindOf x)) l b (f .fit)
+      ap (print table (tagsOf table (kindOf x))) (f .numbers-are) ∙ print-numbers table table-usable (tagsOf table (kindOf x)) l b (f .fit)
 
 -- a message has one frame, and a frame one message
 pub one-frame : (l r : List ℕ) (x : Said) → Bytes l → Bytes r → decode l ≡ some x → decode r ≡ some x → l ≡ r

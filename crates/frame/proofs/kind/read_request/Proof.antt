@@ -6,7 +6,7 @@ use mathlib.Core.Path.{_∙_}
 use lib.ListN.{length}
 use denote.Ref.{now}
 use borrow.Author.Tests.{not-true, not-false}
-use Rattle.frame.proofs.Outs.{request-acks, request-room, zero-request-ack, lseq-out, a-request}
+use Rattle.frame.proofs.Outs.{request-acks, request-room, request-zero-ack, lseq-out, a-request}
 use Rattle.frame.proofs.kind.read_request.Statement.{statement}
 use Rattle.frame.proofs.kind.read_request.Tie as tie
 
@@ -21,46 +21,43 @@ refused-requires c κs = search needs
 
 returns : tie.Need-returns
 returns c =
-    let pre = c .before .before .before .before .before .before .pre in
-    c .refused .ensures ∙ zero-request-ack _ (pre .0) (pre .1) (pre .2) _ (c .before .before .before .before .ack-field .ensures) (not-true _ (c .before .if1 .taken))
+    let pre = c .before .before .before .before .before .pre in
+    c .refused .ensures ∙ request-zero-ack _ (pre .0) (pre .1) (pre .2) _ (c .before .before .before .ack-field .ensures) (not-true _ (c .before .if1 .taken))
 
 mul-number-at : tie.Need-mul-number-at
-mul-number-at c = omega (arith, room (c .before .before .before))
+mul-number-at c = omega (arith, room (c .before .before))
 
 add-number-at : tie.Need-add-number-at
-add-number-at c = omega (arith, room (c .before .before .before))
+add-number-at c = omega (arith, room (c .before .before))
 
 number-at-requires : tie.Need-number-at-requires
-number-at-requires c κs = omega (arith, room (c .before .before .before))
+number-at-requires c κs = omega (arith, room (c .before .before))
 
 refused-requires-2 : tie.Need-refused-requires-2
 refused-requires-2 c κs = search needs
 
 returns-2 : tie.Need-returns-2
 returns-2 c =
-    let pre = c .before .before .before .before .before .before .before .before .pre in
-    c .refused2 .ensures ∙ lseq-out _ (pre .0) (pre .1) (pre .2) _ (c .before .before .before .before .before .before .ack-field .ensures) _ (c .before .before .number-at .ensures) (c .before .if2 .taken)
+    let pre = c .before .before .before .before .before .before .before .pre in
+    c .refused2 .ensures ∙ lseq-out _ (pre .0) (pre .1) (pre .2) _ (c .before .before .before .before .before .ack-field .ensures) _ (c .before .before .number-at .ensures) (c .before .if2 .taken)
+
+common-requires : tie.Need-common-requires
+common-requires c κs = omega (arith, room (c .before .before .before .before))
+
+mul-number-at-2 : tie.Need-mul-number-at-2
+mul-number-at-2 c = omega (arith, room (c .before .before .before .before .before))
+
+add-number-at-2 : tie.Need-add-number-at-2
+add-number-at-2 c = omega (arith, room (c .before .before .before .before .before))
 
 number-at-requires-2 : tie.Need-number-at-requires-2
 number-at-requires-2 c κs = omega (arith, room (c .before .before .before .before .before))
 
-number-at-requires-3 : tie.Need-number-at-requires-3
-number-at-requires-3 c κs = omega (arith, room (c .before .before .before .before .before .before))
-
-mul-number-at-2 : tie.Need-mul-number-at-2
-mul-number-at-2 c = omega (arith, room (c .before .before .before .before .before .before .before))
-
-add-number-at-2 : tie.Need-add-number-at-2
-add-number-at-2 c = omega (arith, room (c .before .before .before .before .before .before .before))
-
-number-at-requires-4 : tie.Need-number-at-requires-4
-number-at-requires-4 c κs = omega (arith, room (c .before .before .before .before .before .before .before))
-
 returns-3 : tie.Need-returns-3
 returns-3 c =
-    let pre = c .before .before .before .before .before .before .before .before .before .before .pre in
-    a-request _ (pre .0) (pre .1) (pre .2) _ (c .before .before .before .before .before .before .before .before .ack-field .ensures) _ (c .before .before .before .before .number-at .ensures) (not-false _ (c .before .before .before .before .before .if1 .left)) (omega arith)
-    _ _ _ (c .before .before .number-at2 .ensures) (c .before .number-at3 .ensures) (c .number-at4 .ensures)
+    let pre = c .before .before .before .before .before .before .before .before .pre in
+    a-request _ (pre .0) (pre .1) (pre .2) _ (c .before .before .before .before .before .before .ack-field .ensures) _ (c .before .before .before .number-at .ensures) (not-false _ (c .before .before .before .before .if1 .left)) (omega arith)
+    _ (c .before .common .ensures) _ (c .number-at2 .ensures)
 
 pub read-request-spec : {M : Type 1} → statement M
 read-request-spec =
@@ -74,9 +71,8 @@ read-request-spec =
     number-at-requires
     refused-requires-2
     returns-2
-    number-at-requires-2
-    number-at-requires-3
+    common-requires
     mul-number-at-2
     add-number-at-2
-    number-at-requires-4
+    number-at-requires-2
     returns-3)

@@ -6,9 +6,9 @@ ghost use Rattle.frame.specs.Table.{lineOf, has, lengthFits};
 // The content of a field is numbers of `width` bytes each; its length in bytes is from `least` to `greatest`; data
 // messages have the field, requests have it.
 pub struct Row {
-    pub width: usize,
-    pub least: usize,
-    pub greatest: usize,
+    pub width: u8,
+    pub least: u8,
+    pub greatest: u8,
     pub message: bool,
     pub request: bool,
 }
@@ -134,11 +134,12 @@ pub fn length_fits(tag: u8, n: usize) -> bool
     ensures { λ r. ⌜ r ≡ lengthFits tag n ⌝ }
 {
     let row = row_of(tag);
-    if n < row.least {
+    let width = row.width as usize;
+    if n < row.least as usize {
         return false;
     }
-    if row.greatest < n {
+    if n > row.greatest as usize {
         return false;
     }
-    n % row.width == 0
+    n % width == 0
 }

@@ -23,11 +23,12 @@ pub fn count_fits(n: usize) -> bool
     ensures { λ r. ⌜ r ≡ between 2 8 n ⌝ }
 {
     let row = row_of(ACK);
-    let most = row.greatest / row.width;
+    let width = row.width as usize;
+    let most = row.greatest as usize / width;
     if most < n {
         return false;
     }
-    length_fits(ACK, row.width * n)
+    length_fits(ACK, width * n)
 }
 
 // Writes a tag, and the length of its content.
@@ -45,7 +46,7 @@ pub fn put_field(d: &mut [u8], at: usize, tag: u8, xs: &[u32]) -> usize
     ensures { λ r. ⌜ FieldWritten tag (now (xs .entry)) at (now (d .entry)) r (now (d .exit)) ⌝ }
 {
     let row = row_of(tag);
-    let w = row.width;
+    let w = row.width as usize;
     let n = w * xs.len();
     put_front(d, at, tag, n);
     put_numbers(d, at + 3, w, xs);

@@ -39,7 +39,7 @@ fn lost_frame_is_resent_and_everything_said_is_taken() {
     assert_eq!(refusals(&steps), [("A 3 2", 9)]);
     assert_eq!(steps[6], ("A 1 3".to_owned(), Outcome::Resend { first: 1, last: 2 }));
     for unit in 1..=3 {
-        assert_eq!(taken_by(unit, &steps), ["fare-at-dock", "two-people", "taking-it", "too-far"]);
+        assert_eq!(taken_by(unit, &steps), ["north-edge-2m", "gate-closed", "ditch-added", "corner-moved"]);
     }
 }
 
@@ -52,7 +52,7 @@ fn early_answer_waits_for_the_question() {
 
 #[test]
 fn window_shuts_until_the_other_cab_is_heard() {
-    let shut = [("S 1 third-fare", 15), ("S 1 third-fare", 15), ("S 1 fifth-fare", 15)];
+    let shut = [("S 1 third-edit", 15), ("S 1 third-edit", 15), ("S 1 fifth-edit", 15)];
     assert_eq!(refusals(&played("window")), shut);
 }
 
@@ -61,6 +61,6 @@ fn two_cabs_take_what_they_said() {
     let steps = played("two");
     assert!(refusals(&steps).is_empty());
     for unit in 1..=2 {
-        assert_eq!(taken_by(unit, &steps), ["fare-at-dock", "taking-it"]);
+        assert_eq!(taken_by(unit, &steps), ["north-edge-2m", "ditch-added"]);
     }
 }

@@ -52,7 +52,7 @@ fn picture_has_a_dot_for_each_send_and_an_arrow_for_each_arrival() {
     let legend_arrows = 3;
     assert_eq!(svg.matches("<circle").count(), 1 + LOST.matches("S ").count());
     assert_eq!(svg.matches("class=\"arrow\"").count(), legend_arrows + LOST.matches("A ").count());
-    for text in ["9 gap", "ask for 1.1-2", "resend 1.1-2", "S 1 fare-at-dock"] {
+    for text in ["9 gap", "ask for 1.1-2", "resend 1.1-2", "S 1 north-edge-2m"] {
         assert!(svg.contains(text), "{text}");
     }
 }

@@ -8,4 +8,6 @@ pub mod Reading
 pub mod Outs
 pub mod Stores
 pub mod Handing
+pub mod Told
+pub mod ReaderCalls
 pub mod Determined

@@ -8,6 +8,7 @@ pub mod Reading
 pub mod Outs
 pub mod Stores
 pub mod Handing
+pub mod Held
 pub mod Told
 pub mod ReaderCalls
 pub mod Determined

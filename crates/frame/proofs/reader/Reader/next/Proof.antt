@@ -18,7 +18,6 @@ use ghost.Atoms.{Atoms, sem}
 use contract.Lifetimes.{Lfts}
 use contract.Monad.{Fun, fact}
 use contract.Running.{givenOf, tables, tablesOf}
-use Rattle.frame.proofs.Told.{told}
 use types.Kit.{Given, ‵, raw, _⊛_, given, ⋆, some, later, _$_, _∵_, !, qed, by, move, drop, use1, use2, split, join, learn, pick, fsplit, fjoin, suffices, frame, await, done}
 use types.Part.{whole, sub, look-in}
 use types.Run.{look, init, forget, stop, fld, from, load, of-opd, and-then, no-more, assigns, land, returns, enter, alloc1, alloc0, params1, pass1, pass0, free1, free0}
@@ -46,6 +45,8 @@ use denote.Triple.Clauses.{ensured, lasts}
 use Rattle.frame.specs.Field.{fieldAt}
 use Rattle.frame.specs.declared.reader.Reader.{Reader}
 use Rattle.frame.specs.declared.field.Field.{Field}
+use Rattle.frame.proofs.Held.{Held, shows-frame}
+use Rattle.frame.proofs.Told.{told}
 use Rattle.frame.proofs.reader.Reader as T
 use Rattle.frame.proofs.reader.Reader.Laws as T′
 use Rattle.frame.proofs.field.Field as S
@@ -59,12 +60,8 @@ use Rattle.frame.proofs.reader.Reader.next as next
 use Rattle.frame.proofs.reader.Reader.next.Statement as stated
 use Rattle.frame.proofs.reader.Reader.next.Code as code
 
--- the struct's type, over the signature's lifetimes
-abbrev B : Lfts 1 → RattleType
-B κs = T.the-row (namedLft 1 0 tt κs)
-
 abbrev stayed : Stays (next.ended .signature .params) (next.ended .kept)
-stayed = (stay-none B yes, (stay-none (λ _. u8) yes, tt))
+stayed = (stay-none Held yes, (stay-none (λ _. u8) yes, tt))
 
 module _ {M : Type 1} (𝓤 : URA M) (H : Heap 𝓤) (A : Atoms 𝓤) (mem : Memory → SProp 𝓤) (run : Routine → Fun 𝓤) where
   -- the contract that the proof cites
@@ -89,17 +86,7 @@ module _ {M : Type 1} (𝓤 : URA M) (H : Heap 𝓤) (A : Atoms 𝓤) (W : Given
   Post = walkOf 𝓤 H A next.ended stayed (next.clauses 𝓤 H A mem run) .post (((κ, tt), (q, tt), tt, (d, (t, tt)), vals), tt)
 
   abbrev Own : Fml
-  Own = B (κ, tt) .own d (mach ∷ [])
-
-  -- the struct's type and laws, and d's fields' values
-  abbrev D : Declared
-  D = T.the-type (namedLft 1 0 tt (κ, tt))
-
-  abbrev L : LL.Laws D
-  L = T′.the-laws (namedLft 1 0 tt (κ, tt))
-
-  abbrev vd : Values (D .parts)
-  vd = (d .frame, (d .at, tt))
+  Own = Held (κ, tt) .own d (mach ∷ [])
 
   -- what the callee is passed
   abbrev passed : Vals field.signature (κ, tt)
@@ -114,12 +101,11 @@ module _ {M : Type 1} (𝓤 : URA M) (H : Heap 𝓤) (A : Atoms 𝓤) (W : Given
   -- what the struct owns gives what the callee asks, and is kept
   apart : d .at < 2 ^ 64 → ent 𝓤 (onEntry 𝓤 H A next.signature (κ, tt) (q, tt) (d, (t, tt)) vals) (sep 𝓤 (FieldAt 𝓤 H A mem run .pre to) (sem 𝓤 H A Own))
   apart fits =
-      qed W ((‵ (flft κ q) ⊛ ‵ ftrue) ∷ ‵ (owns (B (κ, tt) ∷ u8 ∷ []) (d, (t, tt)) vals) ∷ []) ∵
-      move ! (1 ∷ []) $ fsplit ! $ move ! (1 ∷ []) $ drop ! $ use1 W (‵ Own ⊛ ‵ Own) (LL.copy D (T′.the-copy (namedLft 1 0 tt (κ, tt))) 𝓤 H A W .twice d (mach ∷ [])) $ split ! $
-      use1 W (given (mach ∷ [] ≡ mach ∷ []) (‵ (all-own (D .parts) L vd))) (own-open 𝓤 H A W D L vd mach) $ learn ! (λ _. use1 W (‵ (ownAt (D .parts) L 0 (d .frame)) ⊛ ‵ (rest (D .parts) L 0 vd)) (own-out 𝓤 H A W (D .parts) L 0 vd) $ split ! $
-      -- [what src owns; what at owns; what the struct owns; the token]
-      move ! (1 ∷ []) $ drop ! $ nothing ! $ owned ! u8 (Is u8) (uint-makes 𝓤 H A W w8) t _ (refl, ok) $ fjoin ! $ owned ! usize (Is usize) (uint-makes 𝓤 H A W w64) (d .at) _ (refl, fits) $ fjoin ! $ move ! (1 ∷ 0 ∷ []) $ fjoin ! $
-      move ! (2 ∷ 0 ∷ []) $ use2 W (raw (FieldAt 𝓤 H A mem run .pre to)) asked $ frame ! $ done !)
+      qed W ((‵ (flft κ q) ⊛ ‵ ftrue) ∷ ‵ (owns (Held (κ, tt) ∷ u8 ∷ []) (d, (t, tt)) vals) ∷ []) ∵
+      move ! (1 ∷ []) $ fsplit ! $ move ! (1 ∷ []) $ drop ! $ use1 W (‵ (ShrSlice (named 0) κ u8 .own (d .frame) (v ∷ [])) ⊛ ‵ Own) (shows-frame 𝓤 H A W κ d) $ split ! $
+      -- [what the frame owns; what the reader owns; the token]
+      nothing ! $ owned ! u8 (Is u8) (uint-makes 𝓤 H A W w8) t _ (refl, ok) $ fjoin ! $ owned ! usize (Is usize) (uint-makes 𝓤 H A W w64) (d .at) _ (refl, fits) $ fjoin ! $ move ! (1 ∷ 0 ∷ []) $ fjoin ! $
+      move ! (2 ∷ 0 ∷ []) $ use2 W (raw (FieldAt 𝓤 H A mem run .pre to)) asked $ frame ! $ done !
 
   -- of the callee's `ensured`, the clause alone: it has no `&mut`, so what is said of last values is dropped
   said : (r : Field) → ent 𝓤 (ensured 𝓤 H A field.ended (field.clauses 𝓤 H A mem run) (κ, tt) (d .frame, (d .at, (t, tt))) tt r) (fact 𝓤 (r ≡ found))
@@ -155,7 +141,7 @@ module _ {M : Type 1} (𝓤 : URA M) (H : Heap 𝓤) (A : Atoms 𝓤) (W : Given
 next-meets : {M : Type 1} (𝓤 : URA M) (H : Heap 𝓤) (A : Atoms 𝓤) (W : Given 𝓤 H A) (mem : Memory → SProp 𝓤) (run : Routine → Fun 𝓤) (𝓣 : Tables 𝓤 H)
     → Triple 𝓤 (𝓣 .C #field-at) (FieldAt 𝓤 H A mem run)
     → Meets 𝓤 H A next.signature (WpFn 𝓤 H (𝓣 .C) (𝓣 .Λ) code.function) (next.spec 𝓤 H A mem run)
-next-meets 𝓤 H A W mem run 𝓣 known-field = walk-meets 𝓤 H A next.ended stayed W (goes-none 𝓤 H A W 1 B yes (λ κs x f. refl), (goes-none 𝓤 H A W 1 (λ _. u8) yes (λ κs x f. refl), tt)) (next.clauses 𝓤 H A mem run) (WpFn 𝓤 H (𝓣 .C) (𝓣 .Λ) code.function) (WpFn-mono 𝓤 H (W .laws) 𝓣 code.function)
+next-meets 𝓤 H A W mem run 𝓣 known-field = walk-meets 𝓤 H A next.ended stayed W (goes-none 𝓤 H A W 1 Held yes (λ κs x f. refl), (goes-none 𝓤 H A W 1 (λ _. u8) yes (λ κs x f. refl), tt)) (next.clauses 𝓤 H A mem run) (WpFn 𝓤 H (𝓣 .C) (𝓣 .Λ) code.function) (WpFn-mono 𝓤 H (W .laws) 𝓣 code.function)
     (next-walks 𝓤 H A W mem run (𝓣 .C) (𝓣 .Λ) (fmOf 𝓤 H (W .laws) 𝓣) known-field)
 
 pub next-spec : {M : Type 1} → stated.statement M

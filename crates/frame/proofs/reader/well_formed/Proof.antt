@@ -7,8 +7,8 @@ use mathlib.Core.Path.{sym, _∙_, subst⁻¹}
 use denote.Ref.{now}
 use borrow.Author.Tests.{not-true, not-false}
 use Rattle.frame.proofs.Turn.{Walked, none-walked, walked-by, stopped, walked-over, walked-all}
-use Rattle.frame.proofs.field.well_formed.Statement.{statement}
-use Rattle.frame.proofs.field.well_formed.Tie as tie
+use Rattle.frame.proofs.reader.well_formed.Statement.{statement}
+use Rattle.frame.proofs.reader.well_formed.Tie as tie
 
 abbrev Inv-loop : tie.InvT-loop
 Inv-loop s kind at₀ tag₀ at tag = Walked s kind at tag

@@ -18,10 +18,7 @@ impl<'a> Reader<'a> {
     fn new(frame: &'a [u8]) -> Reader<'a>
         ensures { λ r. ⌜ (r .frame ≡ frame .entry) × (r .at ≡ 0) ⌝ }
     {
-        Reader {
-            frame,
-            at: 0,
-        }
+        Reader { frame, at: 0 }
     }
 
     // The field of this tag that stands at the reader's place.

@@ -9,6 +9,6 @@ pub mod Outs
 pub mod Stores
 pub mod Handing
 pub mod Held
-pub mod Told
+pub mod Walk
 pub mod ReaderCalls
 pub mod Determined

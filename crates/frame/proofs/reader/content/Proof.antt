@@ -36,7 +36,7 @@ use Rattle.frame.specs.Field.{partAt}
 use Rattle.frame.specs.declared.reader.Reader.{Reader}
 use Rattle.frame.specs.declared.field.Field.{Field}
 use Rattle.frame.proofs.Held.{Held, inside}
-use Rattle.frame.proofs.Told.{told}
+use Rattle.frame.proofs.Walk.{told, by-walk}
 use Rattle.frame.proofs.ReaderCalls.{New, Part, to-new, goes-new, Begun, new-ensures, new-said, goes-after, to-part, PartIs, part-ensures, part-said}
 use Rattle.frame.proofs.reader.Reader as T
 use Rattle.frame.proofs.reader.Reader.Laws as T′
@@ -103,23 +103,13 @@ module _ {M : Type 1} (𝓤 : URA M) (H : Heap 𝓤) (A : Atoms 𝓤) (W : Given
         move ! (9 ∷ 10 ∷ []) $ free1 ! $ move ! (7 ∷ 8 ∷ []) $ free1 ! $ move ! (5 ∷ 6 ∷ []) $ free1 ! $ move ! (3 ∷ 4 ∷ []) $ free1 ! $ free0 ! $
         by ! (exits p₁ u₁ (e₁ ∙ ap (λ (x : RefT (List ℕ)). partAt (now x) (f .start) (f .end)) (e .0)))))))))))
 
-module _ {M : Type 1} (𝓤 : URA M) (H : Heap 𝓤) (A : Atoms 𝓤) (W : Given 𝓤 H A) (mem : Memory → SProp 𝓤) (run : Routine → Fun 𝓤) where
-  content-walks : (C : Calls 𝓤 H) (Λ : Loops 𝓤 H) → FmC 𝓤 H (W .laws) C → Triple 𝓤 (C #new) (New 𝓤 H A mem run) → Triple 𝓤 (C #part) (Part 𝓤 H A mem run)
-      → Walks 𝓤 H A content.ended stayed (WpFn 𝓤 H C Λ code.function) (content.clauses 𝓤 H A mem run)
-  content-walks C Λ fm known-new known-part = walked 𝓤 H A content.ended stayed (content.clauses 𝓤 H A mem run) (WpFn 𝓤 H C Λ code.function) (λ κs. (slice-vals, (LL.vals S.the-type S′.the-laws, tt))) (λ κs. (shr-slice-tells (named 0) (κs .0) u8, (LL.tells S.the-type S′.the-laws, tt)))
-      (λ κs qs bounds a g are. via 𝓤 _ (fst∗ 𝓤 _ (emp 𝓤)) (walk 𝓤 H A W mem run (κs .0) (qs .0) (a .0) (a .1 .0) (are .1 .0) C Λ fm known-new known-part (are .0)))
-
-content-meets : {M : Type 1} (𝓤 : URA M) (H : Heap 𝓤) (A : Atoms 𝓤) (W : Given 𝓤 H A) (mem : Memory → SProp 𝓤) (run : Routine → Fun 𝓤) (𝓣 : Tables 𝓤 H)
-    → Triple 𝓤 (𝓣 .C #new) (New 𝓤 H A mem run) → Triple 𝓤 (𝓣 .C #part) (Part 𝓤 H A mem run)
-    → Meets 𝓤 H A content.signature (WpFn 𝓤 H (𝓣 .C) (𝓣 .Λ) code.function) (content.spec 𝓤 H A mem run)
-content-meets 𝓤 H A W mem run 𝓣 known-new known-part = walk-meets 𝓤 H A content.ended stayed W (goes-none-slice 𝓤 H A W 1 (0 ∷ []) tt (plain (λ _. u8)) yes, (goes-none 𝓤 H A W 1 (λ _. S.the-row) yes (λ κs x f. refl), tt)) (content.clauses 𝓤 H A mem run) (WpFn 𝓤 H (𝓣 .C) (𝓣 .Λ) code.function) (WpFn-mono 𝓤 H (W .laws) 𝓣 code.function)
-    (content-walks 𝓤 H A W mem run (𝓣 .C) (𝓣 .Λ) (fmOf 𝓤 H (W .laws) 𝓣) known-new known-part)
-
 pub content-spec : {M : Type 1} → stated.statement M
-unfolding code.routine tablesOf
+unfolding code.routine
 content-spec 𝓤 H 𝓜 𝓖 𝓡 =
-    entered 𝓤 H (tripleOf 𝓤 H (𝓖 .A) content.signature (content.spec 𝓤 H (𝓖 .A) (𝓜 .mem) (𝓡 .run)))
-    (tables 𝓤 H 𝓜 𝓡 code.env .C) (tables 𝓤 H 𝓜 𝓡 code.env .Λ) #content code.function (code.unfolded 𝓤 H 𝓜 𝓡)
-    (content-meets 𝓤 H (𝓖 .A) (givenOf 𝓤 H 𝓜 𝓖) (𝓜 .mem) (𝓡 .run) (tablesOf 𝓤 H 𝓜 (tables 𝓤 H 𝓜 𝓡 code.env))
-    (cited 𝓤 H (New 𝓤 H (𝓖 .A) (𝓜 .mem) (𝓡 .run)) 𝓜 𝓡 code.env #new new-def.routine code.calls-frame·reader·Reader·new (new-thm.met 𝓤 H 𝓜 𝓖 𝓡))
-    (cited 𝓤 H (Part 𝓤 H (𝓖 .A) (𝓜 .mem) (𝓡 .run)) 𝓜 𝓡 code.env #part part-def.routine code.calls-frame·reader·Reader·part (part-thm.met 𝓤 H 𝓜 𝓖 𝓡)))
+    by-walk 𝓤 H 𝓜 𝓖 𝓡 content.ended stayed (content.clauses 𝓤 H (𝓖 .A) (𝓜 .mem) (𝓡 .run)) code.env #content code.function
+    (goes-none-slice 𝓤 H (𝓖 .A) (givenOf 𝓤 H 𝓜 𝓖) 1 (0 ∷ []) tt (plain (λ _. u8)) yes, (goes-none 𝓤 H (𝓖 .A) (givenOf 𝓤 H 𝓜 𝓖) 1 (λ _. S.the-row) yes (λ κs x f. refl), tt)) (code.unfolded 𝓤 H 𝓜 𝓡)
+    (λ κs. (slice-vals, (LL.vals S.the-type S′.the-laws, tt))) (λ κs. (shr-slice-tells (named 0) (κs .0) u8, (LL.tells S.the-type S′.the-laws, tt)))
+    (λ fm κs qs bounds a g are. via 𝓤 _ (fst∗ 𝓤 _ (emp 𝓤)) (walk 𝓤 H (𝓖 .A) (givenOf 𝓤 H 𝓜 𝓖) (𝓜 .mem) (𝓡 .run) (κs .0) (qs .0) (a .0) (a .1 .0) (are .1 .0) (tables 𝓤 H 𝓜 𝓡 code.env .C) (tables 𝓤 H 𝓜 𝓡 code.env .Λ) fm
+        (cited 𝓤 H (New 𝓤 H (𝓖 .A) (𝓜 .mem) (𝓡 .run)) 𝓜 𝓡 code.env #new new-def.routine code.calls-frame·reader·Reader·new (new-thm.met 𝓤 H 𝓜 𝓖 𝓡))
+        (cited 𝓤 H (Part 𝓤 H (𝓖 .A) (𝓜 .mem) (𝓡 .run)) 𝓜 𝓡 code.env #part part-def.routine code.calls-frame·reader·Reader·part (part-thm.met 𝓤 H 𝓜 𝓖 𝓡))
+    (are .0)))

@@ -46,7 +46,7 @@ use Rattle.frame.specs.Field.{partAt}
 use Rattle.frame.specs.declared.reader.Reader.{Reader}
 use Rattle.frame.specs.declared.field.Field.{Field}
 use Rattle.frame.proofs.Held.{Held, shows-frame}
-use Rattle.frame.proofs.Told.{told}
+use Rattle.frame.proofs.Walk.{told, by-walk}
 use Rattle.frame.proofs.reader.Reader as T
 use Rattle.frame.proofs.reader.Reader.Laws as T′
 use Rattle.frame.proofs.field.Field as S
@@ -134,22 +134,12 @@ module _ {M : Type 1} (𝓤 : URA M) (H : Heap 𝓤) (A : Atoms 𝓤) (W : Given
         returns ! (look ! 9 refl) $ forget ! 3 refl $ forget ! 5 refl $ forget ! 7 refl $ forget ! 9 refl $
         move ! (9 ∷ 10 ∷ []) $ free1 ! $ move ! (7 ∷ 8 ∷ []) $ free1 ! $ move ! (5 ∷ 6 ∷ []) $ free1 ! $ move ! (3 ∷ 4 ∷ []) $ free1 ! $ free0 ! $ by ! (exits r u e)))))))
 
-module _ {M : Type 1} (𝓤 : URA M) (H : Heap 𝓤) (A : Atoms 𝓤) (W : Given 𝓤 H A) (mem : Memory → SProp 𝓤) (run : Routine → Fun 𝓤) where
-  part-walks : (C : Calls 𝓤 H) (Λ : Loops 𝓤 H) → FmC 𝓤 H (W .laws) C → Triple 𝓤 (C #part-at) (PartAt 𝓤 H A mem run)
-      → Walks 𝓤 H A part.ended stayed (WpFn 𝓤 H C Λ code.function) (part.clauses 𝓤 H A mem run)
-  part-walks C Λ fm known = walked 𝓤 H A part.ended stayed (part.clauses 𝓤 H A mem run) (WpFn 𝓤 H C Λ code.function) (λ κs. (LL.vals (T.the-type (namedLft 1 0 tt κs)) (T′.the-laws (namedLft 1 0 tt κs)), (LL.vals S.the-type S′.the-laws, tt))) (λ κs. (LL.tells (T.the-type (namedLft 1 0 tt κs)) (T′.the-laws (namedLft 1 0 tt κs)), (LL.tells S.the-type S′.the-laws, tt)))
-      (λ κs qs bounds a g are. via 𝓤 _ (fst∗ 𝓤 _ (emp 𝓤)) (walk 𝓤 H A W mem run (κs .0) (qs .0) (a .0) (a .1 .0) (are .1 .0) C Λ fm known (LL.lawful (T.the-type (namedLft 1 0 tt κs)) (T′.the-laws (namedLft 1 0 tt κs)) 𝓤 H A W .typed (a .0) _ (are .0) .0)))
-
-part-meets : {M : Type 1} (𝓤 : URA M) (H : Heap 𝓤) (A : Atoms 𝓤) (W : Given 𝓤 H A) (mem : Memory → SProp 𝓤) (run : Routine → Fun 𝓤) (𝓣 : Tables 𝓤 H)
-    → Triple 𝓤 (𝓣 .C #part-at) (PartAt 𝓤 H A mem run)
-    → Meets 𝓤 H A part.signature (WpFn 𝓤 H (𝓣 .C) (𝓣 .Λ) code.function) (part.spec 𝓤 H A mem run)
-part-meets 𝓤 H A W mem run 𝓣 known-work = walk-meets 𝓤 H A part.ended stayed W (goes-none 𝓤 H A W 1 Held yes (λ κs x f. refl), (goes-none 𝓤 H A W 1 (λ _. S.the-row) yes (λ κs x f. refl), tt)) (part.clauses 𝓤 H A mem run) (WpFn 𝓤 H (𝓣 .C) (𝓣 .Λ) code.function) (WpFn-mono 𝓤 H (W .laws) 𝓣 code.function)
-    (part-walks 𝓤 H A W mem run (𝓣 .C) (𝓣 .Λ) (fmOf 𝓤 H (W .laws) 𝓣) known-work)
-
 pub part-spec : {M : Type 1} → stated.statement M
-unfolding code.routine tablesOf
+unfolding code.routine
 part-spec 𝓤 H 𝓜 𝓖 𝓡 =
-    entered 𝓤 H (tripleOf 𝓤 H (𝓖 .A) part.signature (part.spec 𝓤 H (𝓖 .A) (𝓜 .mem) (𝓡 .run)))
-    (tables 𝓤 H 𝓜 𝓡 code.env .C) (tables 𝓤 H 𝓜 𝓡 code.env .Λ) #part code.function (code.unfolded 𝓤 H 𝓜 𝓡)
-    (part-meets 𝓤 H (𝓖 .A) (givenOf 𝓤 H 𝓜 𝓖) (𝓜 .mem) (𝓡 .run) (tablesOf 𝓤 H 𝓜 (tables 𝓤 H 𝓜 𝓡 code.env))
-    (cited 𝓤 H (PartAt 𝓤 H (𝓖 .A) (𝓜 .mem) (𝓡 .run)) 𝓜 𝓡 code.env #part-at part-def.routine code.calls-frame·field·part-at (part-thm.met 𝓤 H 𝓜 𝓖 𝓡)))
+    by-walk 𝓤 H 𝓜 𝓖 𝓡 part.ended stayed (part.clauses 𝓤 H (𝓖 .A) (𝓜 .mem) (𝓡 .run)) code.env #part code.function
+    (goes-none 𝓤 H (𝓖 .A) (givenOf 𝓤 H 𝓜 𝓖) 1 Held yes (λ κs x f. refl), (goes-none 𝓤 H (𝓖 .A) (givenOf 𝓤 H 𝓜 𝓖) 1 (λ _. S.the-row) yes (λ κs x f. refl), tt)) (code.unfolded 𝓤 H 𝓜 𝓡)
+    (λ κs. (LL.vals (T.the-type (namedLft 1 0 tt κs)) (T′.the-laws (namedLft 1 0 tt κs)), (LL.vals S.the-type S′.the-laws, tt))) (λ κs. (LL.tells (T.the-type (namedLft 1 0 tt κs)) (T′.the-laws (namedLft 1 0 tt κs)), (LL.tells S.the-type S′.the-laws, tt)))
+    (λ fm κs qs bounds a g are. via 𝓤 _ (fst∗ 𝓤 _ (emp 𝓤)) (walk 𝓤 H (𝓖 .A) (givenOf 𝓤 H 𝓜 𝓖) (𝓜 .mem) (𝓡 .run) (κs .0) (qs .0) (a .0) (a .1 .0) (are .1 .0) (tables 𝓤 H 𝓜 𝓡 code.env .C) (tables 𝓤 H 𝓜 𝓡 code.env .Λ) fm
+        (cited 𝓤 H (PartAt 𝓤 H (𝓖 .A) (𝓜 .mem) (𝓡 .run)) 𝓜 𝓡 code.env #part-at part-def.routine code.calls-frame·field·part-at (part-thm.met 𝓤 H 𝓜 𝓖 𝓡))
+    (LL.lawful (T.the-type (namedLft 1 0 tt κs)) (T′.the-laws (namedLft 1 0 tt κs)) 𝓤 H (𝓖 .A) (givenOf 𝓤 H 𝓜 𝓖) .typed (a .0) _ (are .0) .0)))

@@ -102,8 +102,12 @@ module _ {M : Type 1} (𝓤 : URA M) (H : Heap 𝓤) (A : Atoms 𝓤) (W : Given
       abbrev pub to-after : After 𝓤 H A mem run .Ghost
       to-after = (((κ, tt), (q, tt), tt, (r, (f, tt)), (u ∷ [], (S′.lowered f ∷ [], tt))), tt)
 
-      pub goes-after : ent 𝓤 (⋆ 𝓤 H A (‵ Own ∷ (‵ (flft κ q) ⊛ ‵ ftrue) ∷ [])) (After 𝓤 H A mem run .pre to-after)
-      goes-after =
+      abbrev pub to-part : Part 𝓤 H A mem run .Ghost
+      to-part = (((κ, tt), (q, tt), tt, (r, (f, tt)), (u ∷ [], (S′.lowered f ∷ [], tt))), tt)
+
+      -- `after` and `part` ask for the same
+      pub goes-with : ent 𝓤 (⋆ 𝓤 H A (‵ Own ∷ (‵ (flft κ q) ⊛ ‵ ftrue) ∷ [])) (After 𝓤 H A mem run .pre to-after)
+      goes-with =
           qed W (‵ Own ∷ (‵ (flft κ q) ⊛ ‵ ftrue) ∷ []) ∵
           nothing ! $ owned ! S.the-row (Is S.the-row) (LL.makes S.the-type S′.the-plain 𝓤 H A) f _ isf $ fjoin ! $ move ! (1 ∷ 0 ∷ []) $ fjoin ! $ move ! (1 ∷ 0 ∷ []) $ join ! $ frame ! $ done !
 
@@ -115,9 +119,6 @@ module _ {M : Type 1} (𝓤 : URA M) (H : Heap 𝓤) (A : Atoms 𝓤) (W : Given
 
       pub after-said : (d : Reader) → ent 𝓤 (after-ensures d) (fact 𝓤 (StandsAfter d))
       after-said d = exE 𝓤 _ (λ ws. snd∗ 𝓤 (sem 𝓤 H A (lasts after.ended (κ, tt) (r, (f, tt)) ws)) (fact 𝓤 (StandsAfter d)))
-
-      abbrev pub to-part : Part 𝓤 H A mem run .Ghost
-      to-part = (((κ, tt), (q, tt), tt, (r, (f, tt)), (u ∷ [], (S′.lowered f ∷ [], tt))), tt)
 
       abbrev pub PartIs : RefT (List ℕ) → Type 0
       PartIs p = now p ≡ partAt (now (r .frame)) (f .start) (f .end)

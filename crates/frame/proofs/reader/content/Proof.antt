@@ -10,13 +10,13 @@ use base.Logic.{SProp, ent, sep, emp, via, fst∗}
 use base.Fml.{Lft, Share, Fml, ftrue, flft}
 use prog.Memory.{Memory}
 use prog.Routine.{Routine}
-use prog.Wp.{Heap, Calls, Loops, WpFn, Tables}
+use prog.Wp.{Heap, Calls, Loops, WpFn}
 use ghost.Atoms.{Atoms, sem}
 use contract.Monad.{Fun}
-use contract.Running.{givenOf, tables, tablesOf}
+use contract.Running.{givenOf, tables}
 use types.Kit.{Given, ‵, raw, _⊛_, ⋆, _$_, _∵_, !, qed, by, move, drop, use1, use2, split, fsplit, fjoin, suffices, frame, done}
 use types.Run.{look, init, forget, stop, from, load, and-then, no-more, land, returns, enter, alloc1, alloc0, params1, pass1, pass0, free1, free0}
-use sound.WpLaws.{FmC, fmOf, WpFn-mono}
+use sound.WpLaws.{FmC}
 use denote.RattleType.{RattleType, owns}
 use denote.Laws.{Is}
 use denote.Builtin.{u8}
@@ -28,16 +28,14 @@ use denote.Struct.Laws as LL
 use denote.Triple.Statement.{Triple}
 use denote.Triple.Call.{calls-at}
 use denote.Triple.Entry.{Vals, onEntry}
-use denote.Triple.Spec.{Meets, tripleOf}
-use denote.Triple.Table.{entered, cited}
-use denote.Triple.Walked.{says, Stays, stay-none-slice, stay-none, walkOf, goes-none-slice, goes-none, Walks, ends-at, walked, walk-meets}
+use denote.Triple.Table.{cited}
+use denote.Triple.Walked.{says, Stays, stay-none-slice, stay-none, walkOf, goes-none-slice, goes-none, ends-at}
 use denote.Exit.{yes}
 use Rattle.frame.specs.Field.{partAt}
-use Rattle.frame.specs.declared.reader.Reader.{Reader}
 use Rattle.frame.specs.declared.field.Field.{Field}
 use Rattle.frame.proofs.Held.{Held, inside}
 use Rattle.frame.proofs.Walk.{told, by-walk}
-use Rattle.frame.proofs.ReaderCalls.{New, Part, to-new, goes-new, Begun, new-ensures, new-said, goes-after, to-part, PartIs, part-ensures, part-said}
+use Rattle.frame.proofs.ReaderCalls.{New, Part, to-new, goes-new, Begun, new-ensures, new-said, goes-with, to-part, PartIs, part-ensures, part-said}
 use Rattle.frame.proofs.reader.Reader as T
 use Rattle.frame.proofs.reader.Reader.Laws as T′
 use Rattle.frame.proofs.field.Field as S
@@ -94,7 +92,7 @@ module _ {M : Type 1} (𝓤 : URA M) (H : Heap 𝓤) (A : Atoms 𝓤) (W : Given
         told ! tt κ q (Held (κ, tt)) (Begun 𝓤 H A W mem run κ q s) (new-ensures 𝓤 H A W mem run κ q s) u (new-said 𝓤 H A W mem run κ q s) (λ r e is.
         -- [what the reader owns; the token; what s owns; _3 (3); _2 (5); _1 (7); room for _0 (9)]
         land ! (from ! (stop !)) (init ! 3 refl (LL.lawful (T.the-type (inside κ)) (T′.the-laws (inside κ)) 𝓤 H A W .typed r _ is .0)) $
-        use2 W (raw (Part 𝓤 H A mem run .pre (to-part 𝓤 H A W mem run κ q r u f isf))) (goes-after 𝓤 H A W mem run κ q r u f isf) $
+        use2 W (raw (Part 𝓤 H A mem run .pre (to-part 𝓤 H A W mem run κ q r u f isf))) (goes-with 𝓤 H A W mem run κ q r u f isf) $
         calls-at ! fm (Part 𝓤 H A mem run) known-part (to-part 𝓤 H A W mem run κ q r u f isf) (and-then ! (load ! (from ! (stop !)) (look ! 2 refl)) (and-then ! (load ! (from ! (stop !)) (look ! 4 refl)) (no-more !))) (λ u₁.
         told ! tt κ q P (PartIs 𝓤 H A W mem run κ q r u f isf) (part-ensures 𝓤 H A W mem run κ q r u f isf) u₁ (part-said 𝓤 H A W mem run κ q r u f isf) (λ p₁ e₁ is₁.
         -- [the part; the token; what s owns; _3 (3); _2 (5); _1 (7); room for _0 (9)]
@@ -110,6 +108,6 @@ content-spec 𝓤 H 𝓜 𝓖 𝓡 =
     (goes-none-slice 𝓤 H (𝓖 .A) (givenOf 𝓤 H 𝓜 𝓖) 1 (0 ∷ []) tt (plain (λ _. u8)) yes, (goes-none 𝓤 H (𝓖 .A) (givenOf 𝓤 H 𝓜 𝓖) 1 (λ _. S.the-row) yes (λ κs x f. refl), tt)) (code.unfolded 𝓤 H 𝓜 𝓡)
     (λ κs. (slice-vals, (LL.vals S.the-type S′.the-laws, tt))) (λ κs. (shr-slice-tells (named 0) (κs .0) u8, (LL.tells S.the-type S′.the-laws, tt)))
     (λ fm κs qs bounds a g are. via 𝓤 _ (fst∗ 𝓤 _ (emp 𝓤)) (walk 𝓤 H (𝓖 .A) (givenOf 𝓤 H 𝓜 𝓖) (𝓜 .mem) (𝓡 .run) (κs .0) (qs .0) (a .0) (a .1 .0) (are .1 .0) (tables 𝓤 H 𝓜 𝓡 code.env .C) (tables 𝓤 H 𝓜 𝓡 code.env .Λ) fm
-        (cited 𝓤 H (New 𝓤 H (𝓖 .A) (𝓜 .mem) (𝓡 .run)) 𝓜 𝓡 code.env #new new-def.routine code.calls-frame·reader·Reader·new (new-thm.met 𝓤 H 𝓜 𝓖 𝓡))
-        (cited 𝓤 H (Part 𝓤 H (𝓖 .A) (𝓜 .mem) (𝓡 .run)) 𝓜 𝓡 code.env #part part-def.routine code.calls-frame·reader·Reader·part (part-thm.met 𝓤 H 𝓜 𝓖 𝓡))
+    (cited 𝓤 H (New 𝓤 H (𝓖 .A) (𝓜 .mem) (𝓡 .run)) 𝓜 𝓡 code.env #new new-def.routine code.calls-frame·reader·Reader·new (new-thm.met 𝓤 H 𝓜 𝓖 𝓡))
+    (cited 𝓤 H (Part 𝓤 H (𝓖 .A) (𝓜 .mem) (𝓡 .run)) 𝓜 𝓡 code.env #part part-def.routine code.calls-frame·reader·Reader·part (part-thm.met 𝓤 H 𝓜 𝓖 𝓡))
     (are .0)))

@@ -24,7 +24,7 @@ use denote.Struct.Laws as LL
 use denote.Triple.Statement.{Contract}
 use denote.Triple.Spec.{tripleOf}
 use denote.Triple.Clauses.{ensured, lasts}
-use Rattle.frame.specs.Field.{fieldAt, partAt}
+use Rattle.frame.specs.Reader.{begun, nextOf, afterOf, partOf}
 use Rattle.frame.specs.declared.reader.Reader.{Reader}
 use Rattle.frame.specs.declared.field.Field.{Field}
 use Rattle.frame.proofs.Held.{Held}
@@ -66,14 +66,11 @@ module _ {M : Type 1} (𝓤 : URA M) (H : Heap 𝓤) (A : Atoms 𝓤) (W : Given
         use1 W (‵ Lent ⊛ ‵ Lent) (shr-slice-copy 𝓤 H A W (named 0) κ u8 .twice s (v ∷ [])) $ split ! $ move ! (0 ∷ 2 ∷ []) $
         use2 W (raw (New 𝓤 H A mem run .pre to-new)) (qed W (‵ Lent ∷ (‵ (flft κ q) ⊛ ‵ ftrue) ∷ []) ∵ nothing ! $ move ! (1 ∷ 0 ∷ []) $ fjoin ! $ move ! (1 ∷ 0 ∷ []) $ join ! $ frame ! $ done !) $ frame ! $ done !
 
-    abbrev pub Begun : Reader → Type 0
-    Begun r = (r .frame ≡ s) × (r .at ≡ 0)
-
     abbrev pub new-ensures : Reader → SProp 𝓤
     new-ensures = ensured 𝓤 H A new.ended (new.clauses 𝓤 H A mem run) (κ, tt) (s, tt) tt
 
-    pub new-said : (r : Reader) → ent 𝓤 (new-ensures r) (fact 𝓤 (Begun r))
-    new-said r = exE 𝓤 _ (λ ws. snd∗ 𝓤 (sem 𝓤 H A (lasts new.ended (κ, tt) (s, tt) ws)) (fact 𝓤 (Begun r)))
+    pub new-said : (r : Reader) → ent 𝓤 (new-ensures r) (fact 𝓤 (r ≡ begun s))
+    new-said r = exE 𝓤 _ (λ ws. snd∗ 𝓤 (sem 𝓤 H A (lasts new.ended (κ, tt) (s, tt) ws)) (fact 𝓤 (r ≡ begun s)))
 
   -- the other functions, at the reader r with the machine value u
   module _ (r : Reader) (u : Val) where
@@ -89,14 +86,11 @@ module _ {M : Type 1} (𝓤 : URA M) (H : Heap 𝓤) (A : Atoms 𝓤) (W : Given
           qed W (‵ Own ∷ (‵ (flft κ q) ⊛ ‵ ftrue) ∷ []) ∵
           nothing ! $ owned ! u8 (Is u8) (uint-makes 𝓤 H A W w8) t _ (refl, ok) $ fjoin ! $ move ! (1 ∷ 0 ∷ []) $ fjoin ! $ move ! (1 ∷ 0 ∷ []) $ join ! $ frame ! $ done !
 
-      abbrev pub NextIs : Field → Type 0
-      NextIs g = g ≡ fieldAt (now (r .frame)) (r .at) t
-
       abbrev pub next-ensures : Field → SProp 𝓤
       next-ensures = ensured 𝓤 H A next.ended (next.clauses 𝓤 H A mem run) (κ, tt) (r, (t, tt)) tt
 
-      pub next-said : (g : Field) → ent 𝓤 (next-ensures g) (fact 𝓤 (NextIs g))
-      next-said g = exE 𝓤 _ (λ ws. snd∗ 𝓤 (sem 𝓤 H A (lasts next.ended (κ, tt) (r, (t, tt)) ws)) (fact 𝓤 (NextIs g)))
+      pub next-said : (g : Field) → ent 𝓤 (next-ensures g) (fact 𝓤 (g ≡ nextOf r t))
+      next-said g = exE 𝓤 _ (λ ws. snd∗ 𝓤 (sem 𝓤 H A (lasts next.ended (κ, tt) (r, (t, tt)) ws)) (fact 𝓤 (g ≡ nextOf r t)))
 
     module _ (f : Field) (isf : Is S.the-row f (S′.lowered f ∷ [])) where
       abbrev pub to-after : After 𝓤 H A mem run .Ghost
@@ -111,20 +105,14 @@ module _ {M : Type 1} (𝓤 : URA M) (H : Heap 𝓤) (A : Atoms 𝓤) (W : Given
           qed W (‵ Own ∷ (‵ (flft κ q) ⊛ ‵ ftrue) ∷ []) ∵
           nothing ! $ owned ! S.the-row (Is S.the-row) (LL.makes S.the-type S′.the-plain 𝓤 H A) f _ isf $ fjoin ! $ move ! (1 ∷ 0 ∷ []) $ fjoin ! $ move ! (1 ∷ 0 ∷ []) $ join ! $ frame ! $ done !
 
-      abbrev pub StandsAfter : Reader → Type 0
-      StandsAfter d = (d .frame ≡ r .frame) × (d .at ≡ f .end)
-
       abbrev pub after-ensures : Reader → SProp 𝓤
       after-ensures = ensured 𝓤 H A after.ended (after.clauses 𝓤 H A mem run) (κ, tt) (r, (f, tt)) tt
 
-      pub after-said : (d : Reader) → ent 𝓤 (after-ensures d) (fact 𝓤 (StandsAfter d))
-      after-said d = exE 𝓤 _ (λ ws. snd∗ 𝓤 (sem 𝓤 H A (lasts after.ended (κ, tt) (r, (f, tt)) ws)) (fact 𝓤 (StandsAfter d)))
-
-      abbrev pub PartIs : RefT (List ℕ) → Type 0
-      PartIs p = now p ≡ partAt (now (r .frame)) (f .start) (f .end)
+      pub after-said : (d : Reader) → ent 𝓤 (after-ensures d) (fact 𝓤 (d ≡ afterOf r f))
+      after-said d = exE 𝓤 _ (λ ws. snd∗ 𝓤 (sem 𝓤 H A (lasts after.ended (κ, tt) (r, (f, tt)) ws)) (fact 𝓤 (d ≡ afterOf r f)))
 
       abbrev pub part-ensures : RefT (List ℕ) → SProp 𝓤
       part-ensures = ensured 𝓤 H A part.ended (part.clauses 𝓤 H A mem run) (κ, tt) (r, (f, tt)) tt
 
-      pub part-said : (p : RefT (List ℕ)) → ent 𝓤 (part-ensures p) (fact 𝓤 (PartIs p))
-      part-said p = exE 𝓤 _ (λ ws. snd∗ 𝓤 (sem 𝓤 H A (lasts part.ended (κ, tt) (r, (f, tt)) ws)) (fact 𝓤 (PartIs p)))
+      pub part-said : (p : RefT (List ℕ)) → ent 𝓤 (part-ensures p) (fact 𝓤 (now p ≡ partOf r f))
+      part-said p = exE 𝓤 _ (λ ws. snd∗ 𝓤 (sem 𝓤 H A (lasts part.ended (κ, tt) (r, (f, tt)) ws)) (fact 𝓤 (now p ≡ partOf r f)))

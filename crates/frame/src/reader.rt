@@ -3,6 +3,7 @@
 ghost use mathlib.Core.Path.{_≡_};
 ghost use Rattle.rules.specs.Fields.{table, tagsOf, fits};
 ghost use Rattle.frame.specs.Field.{fieldAt, partAt};
+ghost use Rattle.frame.specs.Reader.{begun, nextOf, afterOf, partOf};
 use crate::field::Field;
 use crate::field::field_at;
 use crate::field::part_at;
@@ -16,21 +17,21 @@ pub struct Reader<'a> {
 impl<'a> Reader<'a> {
     // A reader that stands at the start of a frame.
     fn new(frame: &'a [u8]) -> Reader<'a>
-        ensures { λ r. ⌜ (r .frame ≡ frame .entry) × (r .at ≡ 0) ⌝ }
+        ensures { λ r. ⌜ r ≡ begun (frame .entry) ⌝ }
     {
         Reader { frame, at: 0 }
     }
 
     // The field of this tag that stands at the reader's place.
     fn next(self, tag: u8) -> Field
-        ensures { λ f. ⌜ f ≡ fieldAt (now (self .entry .frame)) (self .entry .at) tag ⌝ }
+        ensures { λ f. ⌜ f ≡ nextOf (self .entry) tag ⌝ }
     {
         field_at(self.frame, self.at, tag)
     }
 
     // The reader that stands after a field.
     fn after(self, f: Field) -> Reader<'a>
-        ensures { λ r. ⌜ (r .frame ≡ self .entry .frame) × (r .at ≡ f .end) ⌝ }
+        ensures { λ r. ⌜ r ≡ afterOf (self .entry) f ⌝ }
     {
         Reader {
             frame: self.frame,
@@ -40,7 +41,7 @@ impl<'a> Reader<'a> {
 
     // A field's content, as a part of the lent frame.
     fn part(self, f: Field) -> &'a [u8]
-        ensures { λ p. ⌜ now p ≡ partAt (now (self .entry .frame)) (f .start) (f .end) ⌝ }
+        ensures { λ p. ⌜ now p ≡ partOf (self .entry) f ⌝ }
     {
         part_at(self.frame, f.start, f.end)
     }

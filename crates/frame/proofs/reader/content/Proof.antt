@@ -32,10 +32,12 @@ use denote.Triple.Table.{cited}
 use denote.Triple.Walked.{says, Stays, stay-none-slice, stay-none, walkOf, goes-none-slice, goes-none, ends-at}
 use denote.Exit.{yes}
 use Rattle.frame.specs.Field.{partAt}
+use Rattle.frame.specs.Reader.{begun, partOf}
+use Rattle.frame.specs.declared.reader.Reader.{Reader}
 use Rattle.frame.specs.declared.field.Field.{Field}
 use Rattle.frame.proofs.Held.{Held, inside}
 use Rattle.frame.proofs.Walk.{told, by-walk}
-use Rattle.frame.proofs.ReaderCalls.{New, Part, to-new, goes-new, Begun, new-ensures, new-said, goes-with, to-part, PartIs, part-ensures, part-said}
+use Rattle.frame.proofs.ReaderCalls.{New, Part, to-new, goes-new, new-ensures, new-said, goes-with, to-part, part-ensures, part-said}
 use Rattle.frame.proofs.reader.Reader as T
 use Rattle.frame.proofs.reader.Reader.Laws as T′
 use Rattle.frame.proofs.field.Field as S
@@ -89,17 +91,17 @@ module _ {M : Type 1} (𝓤 : URA M) (H : Heap 𝓤) (A : Atoms 𝓤) (W : Given
         pass1 ! (init ! 4 refl (shr-slice-lawful 𝓤 H A W (named 0) κ u8 .typed s (v ∷ []) p .0)) $ pass1 ! (init ! 2 refl (LL.lawful S.the-type S′.the-laws 𝓤 H A W .typed f _ isf .0)) $ pass0 ! $
         move ! (8 ∷ []) $ use1 W (raw (New 𝓤 H A mem run .pre (to-new 𝓤 H A W mem run κ q s)) ⊛ ‵ Lent) starts $ split ! $
         calls-at ! fm (New 𝓤 H A mem run) known-new (to-new 𝓤 H A W mem run κ q s) (and-then ! (load ! (from ! (stop !)) (look ! 6 refl)) (no-more !)) (λ u.
-        told ! tt κ q (Held (κ, tt)) (Begun 𝓤 H A W mem run κ q s) (new-ensures 𝓤 H A W mem run κ q s) u (new-said 𝓤 H A W mem run κ q s) (λ r e is.
+        told ! tt κ q (Held (κ, tt)) (λ (r : Reader). r ≡ begun s) (new-ensures 𝓤 H A W mem run κ q s) u (new-said 𝓤 H A W mem run κ q s) (λ r e is.
         -- [what the reader owns; the token; what s owns; _3 (3); _2 (5); _1 (7); room for _0 (9)]
         land ! (from ! (stop !)) (init ! 3 refl (LL.lawful (T.the-type (inside κ)) (T′.the-laws (inside κ)) 𝓤 H A W .typed r _ is .0)) $
         use2 W (raw (Part 𝓤 H A mem run .pre (to-part 𝓤 H A W mem run κ q r u f isf))) (goes-with 𝓤 H A W mem run κ q r u f isf) $
         calls-at ! fm (Part 𝓤 H A mem run) known-part (to-part 𝓤 H A W mem run κ q r u f isf) (and-then ! (load ! (from ! (stop !)) (look ! 2 refl)) (and-then ! (load ! (from ! (stop !)) (look ! 4 refl)) (no-more !))) (λ u₁.
-        told ! tt κ q P (PartIs 𝓤 H A W mem run κ q r u f isf) (part-ensures 𝓤 H A W mem run κ q r u f isf) u₁ (part-said 𝓤 H A W mem run κ q r u f isf) (λ p₁ e₁ is₁.
+        told ! tt κ q P (λ (p : RefT (List ℕ)). now p ≡ partOf r f) (part-ensures 𝓤 H A W mem run κ q r u f isf) u₁ (part-said 𝓤 H A W mem run κ q r u f isf) (λ p₁ e₁ is₁.
         -- [the part; the token; what s owns; _3 (3); _2 (5); _1 (7); room for _0 (9)]
         land ! (from ! (stop !)) (init ! 9 refl (shr-slice-lawful 𝓤 H A W (named 0) κ u8 .typed p₁ _ is₁ .0)) $
         returns ! (look ! 9 refl) $ forget ! 3 refl $ forget ! 5 refl $ forget ! 7 refl $ forget ! 9 refl $
         move ! (9 ∷ 10 ∷ []) $ free1 ! $ move ! (7 ∷ 8 ∷ []) $ free1 ! $ move ! (5 ∷ 6 ∷ []) $ free1 ! $ move ! (3 ∷ 4 ∷ []) $ free1 ! $ free0 ! $
-        by ! (exits p₁ u₁ (e₁ ∙ ap (λ (x : RefT (List ℕ)). partAt (now x) (f .start) (f .end)) (e .0)))))))))))
+        by ! (exits p₁ u₁ (e₁ ∙ ap (λ (x : Reader). partOf x f) e))))))))))
 
 pub content-spec : {M : Type 1} → stated.statement M
 unfolding code.routine

@@ -1,5 +1,5 @@
 -- `next_field` meets its contract: a walk of its MIR, by hand. A reader is made, stands after a field, and gives the next.
-use mathlib.Core.Path.{_≡_, refl, ap₂, _∙_}
+use mathlib.Core.Path.{_≡_, refl, ap, _∙_}
 use Prim.Native.Nat.{ℕ, _<_, _^_}
 use mathlib.Core.List.{List, [], _∷_}
 use lib.ListN.{length}
@@ -33,10 +33,12 @@ use denote.Triple.Table.{cited}
 use denote.Triple.Walked.{says, Stays, stay-none-slice, stay-none, walkOf, goes-none-slice, goes-none, ends-at}
 use denote.Exit.{yes}
 use Rattle.frame.specs.Field.{fieldAt}
+use Rattle.frame.specs.Reader.{begun, nextOf, afterOf}
+use Rattle.frame.specs.declared.reader.Reader.{Reader}
 use Rattle.frame.specs.declared.field.Field.{Field}
 use Rattle.frame.proofs.Held.{Held, inside}
 use Rattle.frame.proofs.Walk.{told, by-walk}
-use Rattle.frame.proofs.ReaderCalls.{New, Next, After, to-new, goes-new, Begun, new-ensures, new-said, to-after, goes-with, StandsAfter, after-ensures, after-said, to-next, goes-next, NextIs, next-ensures, next-said}
+use Rattle.frame.proofs.ReaderCalls.{New, Next, After, to-new, goes-new, new-ensures, new-said, to-after, goes-with, after-ensures, after-said, to-next, goes-next, next-ensures, next-said}
 use Rattle.frame.proofs.reader.Reader as T
 use Rattle.frame.proofs.reader.Reader.Laws as T′
 use Rattle.frame.proofs.field.Field as S
@@ -93,22 +95,22 @@ module _ {M : Type 1} (𝓤 : URA M) (H : Heap 𝓤) (A : Atoms 𝓤) (W : Given
         pass1 ! (init ! 8 refl (shr-slice-lawful 𝓤 H A W (named 0) κ u8 .typed s (v ∷ []) p .0)) $ pass1 ! (init ! 6 refl (LL.lawful S.the-type S′.the-laws 𝓤 H A W .typed f _ isf .0)) $ pass1 ! (init ! 4 refl (tt, record { fits = ok })) $ pass0 ! $
         move ! (12 ∷ []) $ use1 W (raw (New 𝓤 H A mem run .pre (to-new 𝓤 H A W mem run κ q s)) ⊛ ‵ Lent) starts $ split ! $
         calls-at ! fm (New 𝓤 H A mem run) known-new (to-new 𝓤 H A W mem run κ q s) (and-then ! (load ! (from ! (stop !)) (look ! 10 refl)) (no-more !)) (λ u.
-        told ! tt κ q (Held (κ, tt)) (Begun 𝓤 H A W mem run κ q s) (new-ensures 𝓤 H A W mem run κ q s) u (new-said 𝓤 H A W mem run κ q s) (λ r e is.
+        told ! tt κ q (Held (κ, tt)) (λ (r : Reader). r ≡ begun s) (new-ensures 𝓤 H A W mem run κ q s) u (new-said 𝓤 H A W mem run κ q s) (λ r e is.
         -- [what the reader owns; the token; what s owns; _5 (3); _4 (5); _3 (7); _2 (9); _1 (11); room for _0 (13)]
         land ! (from ! (stop !)) (init ! 3 refl (LL.lawful (T.the-type (inside κ)) (T′.the-laws (inside κ)) 𝓤 H A W .typed r _ is .0)) $
         use2 W (raw (After 𝓤 H A mem run .pre (to-after 𝓤 H A W mem run κ q r u f isf))) (goes-with 𝓤 H A W mem run κ q r u f isf) $
         calls-at ! fm (After 𝓤 H A mem run) known-after (to-after 𝓤 H A W mem run κ q r u f isf) (and-then ! (load ! (from ! (stop !)) (look ! 2 refl)) (and-then ! (load ! (from ! (stop !)) (look ! 8 refl)) (no-more !))) (λ u₁.
-        told ! tt κ q (Held (κ, tt)) (StandsAfter 𝓤 H A W mem run κ q r u f isf) (after-ensures 𝓤 H A W mem run κ q r u f isf) u₁ (after-said 𝓤 H A W mem run κ q r u f isf) (λ r₁ e₁ is₁.
+        told ! tt κ q (Held (κ, tt)) (λ (d : Reader). d ≡ afterOf r f) (after-ensures 𝓤 H A W mem run κ q r u f isf) u₁ (after-said 𝓤 H A W mem run κ q r u f isf) (λ r₁ e₁ is₁.
         -- the same, with the reader that stands after the field
         land ! (from ! (stop !)) (init ! 5 refl (LL.lawful (T.the-type (inside κ)) (T′.the-laws (inside κ)) 𝓤 H A W .typed r₁ _ is₁ .0)) $
         use2 W (raw (Next 𝓤 H A mem run .pre (to-next 𝓤 H A W mem run κ q r₁ u₁ t ok))) (goes-next 𝓤 H A W mem run κ q r₁ u₁ t ok) $
         calls-at ! fm (Next 𝓤 H A mem run) known-next (to-next 𝓤 H A W mem run κ q r₁ u₁ t ok) (and-then ! (load ! (from ! (stop !)) (look ! 4 refl)) (and-then ! (load ! (from ! (stop !)) (look ! 6 refl)) (no-more !))) (λ u₂.
-        told ! tt κ q S.the-row (NextIs 𝓤 H A W mem run κ q r₁ u₁ t ok) (next-ensures 𝓤 H A W mem run κ q r₁ u₁ t ok) u₂ (next-said 𝓤 H A W mem run κ q r₁ u₁ t ok) (λ g e₂ is₂.
+        told ! tt κ q S.the-row (λ (g : Field). g ≡ nextOf r₁ t) (next-ensures 𝓤 H A W mem run κ q r₁ u₁ t ok) u₂ (next-said 𝓤 H A W mem run κ q r₁ u₁ t ok) (λ g e₂ is₂.
         -- [the field; the token; what s owns; _5 (3); …; room for _0 (13)]
         land ! (from ! (stop !)) (init ! 13 refl (LL.lawful S.the-type S′.the-laws 𝓤 H A W .typed g _ is₂ .0)) $
         returns ! (look ! 13 refl) $ forget ! 3 refl $ forget ! 5 refl $ forget ! 7 refl $ forget ! 9 refl $ forget ! 11 refl $ forget ! 13 refl $
         move ! (13 ∷ 14 ∷ []) $ free1 ! $ move ! (11 ∷ 12 ∷ []) $ free1 ! $ move ! (9 ∷ 10 ∷ []) $ free1 ! $ move ! (7 ∷ 8 ∷ []) $ free1 ! $ move ! (5 ∷ 6 ∷ []) $ free1 ! $ move ! (3 ∷ 4 ∷ []) $ free1 ! $ free0 ! $
-        by ! (exits g u₂ (e₂ ∙ ap₂ (λ (x : RefT (List ℕ)) (n : ℕ). fieldAt (now x) n t) (e₁ .0 ∙ e .0) (e₁ .1)))))))))))))))
+        by ! (exits g u₂ (e₂ ∙ ap (λ (x : Reader). nextOf x t) (e₁ ∙ ap (λ (x : Reader). afterOf x f) e)))))))))))))))
 
 pub next-field-spec : {M : Type 1} → stated.statement M
 unfolding code.routine

@@ -36,7 +36,7 @@ use denote.Triple.Table.{cited}
 use denote.Triple.Walked.{says, Stays, stay-none, walkOf, goes-none, ends-at}
 use denote.Exit.{yes}
 use denote.Triple.Clauses.{ensured, lasts}
-use Rattle.frame.specs.Field.{fieldAt}
+use Rattle.frame.specs.Reader.{nextOf}
 use Rattle.frame.specs.declared.reader.Reader.{Reader}
 use Rattle.frame.specs.declared.field.Field.{Field}
 use Rattle.frame.proofs.Held.{Held, shows-frame}
@@ -71,7 +71,7 @@ module _ {M : Type 1} (𝓤 : URA M) (H : Heap 𝓤) (A : Atoms 𝓤) (W : Given
   v = sliceVal (d .frame .ptr) (length (d .frame .now))
 
   abbrev found : Field
-  found = fieldAt (now (d .frame)) (d .at) t
+  found = nextOf d t
 
   abbrev vals : Vals next.signature (κ, tt)
   vals = (mach ∷ [], (vint w8 t ∷ [], tt))

@@ -36,7 +36,7 @@ use denote.Triple.Table.{cited}
 use denote.Triple.Walked.{says, Stays, stay-none, walkOf, goes-none, ends-at}
 use denote.Exit.{yes}
 use denote.Triple.Clauses.{ensured, lasts}
-use Rattle.frame.specs.Field.{partAt}
+use Rattle.frame.specs.Reader.{partOf}
 use Rattle.frame.specs.declared.reader.Reader.{Reader}
 use Rattle.frame.specs.declared.field.Field.{Field}
 use Rattle.frame.proofs.Held.{Held, shows-frame}
@@ -71,7 +71,7 @@ module _ {M : Type 1} (𝓤 : URA M) (H : Heap 𝓤) (A : Atoms 𝓤) (W : Given
   v = sliceVal (d .frame .ptr) (length (d .frame .now))
 
   abbrev found : List ℕ
-  found = partAt (now (d .frame)) (f .start) (f .end)
+  found = partOf d f
 
   abbrev P : RattleType
   P = ShrSlice (named 0) κ u8

@@ -1,5 +1,6 @@
 #!/usr/bin/env bash
-# How long the proved code and the second program take to write a million data frames and read them back.
+# How much processor time the proved code and the second program take to write a million data frames and read them back:
+# the least of five runs each.
 # usage: benches/frames.sh [ROUNDS]
 set -eu
 cd "$(dirname "$0")/.."
@@ -10,24 +11,32 @@ rounds=${1:-1000000}
 rt check framebench >/dev/null
 cargo build --release --offline --quiet --manifest-path second/Cargo.toml
 
-# timed COMMAND..: sets `sum` to what it prints and `took` to its milliseconds
+work=$(mktemp -d)
+trap 'rm -rf "$work"' EXIT
+
+# timed NAME COMMAND..: leaves what it prints in $work/NAME, and its milliseconds in `took`
 timed() {
-    local start
-    start=$(date +%s%N)
-    sum=$(printf %s "$rounds" | "$@")
-    took=$((($(date +%s%N) - start) / 1000000))
+    local name=$1 TIMEFORMAT=%3U time
+    shift
+    took=
+    for _ in 1 2 3 4 5; do
+        time=$({ time printf %s "$rounds" | "$@" >"$work/$name"; } 2>&1)
+        time=$((10#${time/./}))
+        if [ -z "$took" ] || [ "$time" -lt "$took" ]; then
+            took=$time
+        fi
+    done
+    echo "$name: $rounds frames written and read in $took ms, sum $(cat "$work/$name")"
 }
 
-timed c_run target/bin/framebench
-proved=$took proved_sum=$sum
-timed second/target/release/framebench
-second=$took second_sum=$sum
+timed proved c_run target/bin/framebench
+proved=$took
+timed second second/target/release/framebench
+second=$took
 
-echo "proved: $rounds frames written and read in $proved ms, sum $proved_sum"
-echo "second: $rounds frames written and read in $second ms, sum $second_sum"
-if [ "$proved_sum" != "$second_sum" ]; then
+if ! cmp -s "$work/proved" "$work/second"; then
     echo "the sums differ"
     exit 1
 fi
-echo "ratio proved / second: $(awk "BEGIN { printf \"%.2f\", $proved / ($second ? $second : 1) }")"
+awk "BEGIN { printf \"ratio proved / second: %.2f\n\", $proved / ($second ? $second : 1) }"
 native || echo "$(uname -m): the proved code ran under an emulator, so its time and the ratio say nothing"

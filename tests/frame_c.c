@@ -3,10 +3,9 @@
 #include <stdio.h>
 #include <stdlib.h>
 #include <string.h>
-#include <sys/mman.h>
-#include <unistd.h>
 
 #include "co_frame.h"
+#include "lib/edge.h"
 
 #define MARK 0xa5a5a5a5a5a5a5a5u
 
@@ -169,24 +168,16 @@ static void outputs(void)
     untouched("NULL with length 0", n, 0, 17);
 }
 
-/* Frame and numbers that end where a page ends that cannot be touched, so that nothing past them is. */
 static void at_the_edge(void)
 {
-    size_t page = (size_t)sysconf(_SC_PAGESIZE);
-    uint8_t *block = mmap(NULL, 4 * page, PROT_READ | PROT_WRITE, MAP_PRIVATE | MAP_ANONYMOUS, -1, 0);
-    if (block == MAP_FAILED || mprotect(block + page, page, PROT_NONE) || mprotect(block + 3 * page, page, PROT_NONE)) {
-        perror("frame_c: mmap");
-        exit(1);
-    }
-    uint64_t *numbers = (uint64_t *)(void *)(block + 3 * page) - CO_NUMBERS;
-    uint8_t *frame = block + page - sizeof small;
-    memcpy(frame, small, sizeof small);
-    expect("a frame at the edge", co_read_frame(frame, sizeof small, numbers, CO_NUMBERS), CO_DONE);
+    uint8_t *end = edge(sizeof small);
+    uint64_t *numbers = (uint64_t *)(void *)edge(CO_NUMBERS * sizeof *numbers) - CO_NUMBERS;
+    memcpy(end - sizeof small, small, sizeof small);
+    expect("a frame at the edge", co_read_frame(end - sizeof small, sizeof small, numbers, CO_NUMBERS), CO_DONE);
     for (size_t length = 0; length < sizeof small; length++) {
-        memcpy(block + page - length, small, length);
-        expect("a frame cut at the edge", co_read_frame(block + page - length, length, numbers, CO_NUMBERS), CO_NO_FRAME);
+        memcpy(end - length, small, length);
+        expect("a frame cut at the edge", co_read_frame(end - length, length, numbers, CO_NUMBERS), CO_NO_FRAME);
     }
-    munmap(block, 4 * page);
 }
 
 int main(void)

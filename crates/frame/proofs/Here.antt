@@ -1,11 +1,12 @@
--- A field at a place of a frame, in the terms that `field_at` tests: one law for each of its ways out.
-use mathlib.Core.Bool.{true, false, false≢true}
+-- A field at a place of a frame, and a part of a frame, in the terms that `field_at` and `part_at` test: one law for each of their ways out.
+use mathlib.Core.Bool.{true, false, false≢true, _&&_}
 use mathlib.Core.List.{List}
 use mathlib.Core.Logic.{_≢_}
 use mathlib.Core.Path.{_≡_, sym, ap, _∙_}
 use Prim.Native.Nat.{ℕ, _+_, _-_, _≤_, _<_}
 use native.Mathlib.Nat.{add-zero}
 use native.Mathlib.Omega.{arith}
+use lib.Dec.{leb}
 use lib.ListN.{length, getD, take, drop, length-drop}
 use lib.Seq.{getD-drop, drop-drop}
 use borrow.Author.Tests.{leb-true, eqb-true, le-leb, eq-eqb}
@@ -14,7 +15,7 @@ use Rattle.rules.specs.Fields.{table, lengthOf, fieldFits}
 use Rattle.rules.proofs.MapsLaws.{and-both, not-true}
 use Rattle.rules.proofs.FieldsLaws.{is-field, field-is}
 use Rattle.frame.specs.Table.{lengthFits}
-use Rattle.frame.specs.Field.{noField, fieldAt}
+use Rattle.frame.specs.Field.{noField, fieldAt, partAt}
 
 -- the length that the field at p says
 abbrev pub lengthAt : List ℕ → ℕ → ℕ
@@ -89,3 +90,22 @@ module _ (l : List ℕ) (p t : ℕ) where
     a-field a b tag fit inside =
         let f : Here l p t = record { long = omega arith; tag = tag; fit = rw e at fit; inside = omega arith } in
         rw (is-here f, e, length-here l p)
+
+-- ---- part_at
+
+module _ (l : List ℕ) (a e : ℕ) where
+  no-part : ((a ≤ e) × (e ≤ length l) → ⊥) → take 0 l ≡ partAt l a e
+  unfolding partAt
+  no-part h =
+      let part = leb a e && leb e (length l) in
+      rw (not-true part (λ t. let b = and-both (leb a e) (leb e (length l)) t in h (leb-true a e (b .0), leb-true e (length l) (b .1))))
+
+  pub backward : e < a → take 0 l ≡ partAt l a e
+  backward h = no-part (λ b. omega (arith, b .0))
+
+  pub past-frame : length l < e → take 0 l ≡ partAt l a e
+  past-frame h = no-part (λ b. omega (arith, b .1))
+
+  pub a-part : a ≤ e → e ≤ length l → take (e - a) (drop a l) ≡ partAt l a e
+  unfolding partAt
+  a-part low high = rw (le-leb a e low, le-leb e (length l) high)

@@ -8,4 +8,7 @@ pub mod Reading
 pub mod Outs
 pub mod Stores
 pub mod Handing
+pub mod Held
+pub mod Walk
+pub mod ReaderCalls
 pub mod Determined

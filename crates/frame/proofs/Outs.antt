@@ -16,7 +16,9 @@ use Rattle.rules.proofs.MessageLaws.{Read, decode-read, message-limits, request
 use Rattle.frame.specs.declared.Frame.{Frame}
 use Rattle.frame.specs.declared.number.Acks.{Acks}
 use Rattle.frame.specs.Acks.{countAt, acksAt, acksOf, AckFits}
+use Rattle.frame.specs.Field.{partAt}
 use Rattle.frame.specs.Frame.{frameOf, commonOf, payloadOf}
+use Rattle.frame.proofs.Here.{a-part}
 use Rattle.frame.proofs.Reading.{Seen, not-seen, messageAt, requestAt, message-is, data-at, request-at, is-message, not-message, is-request, not-request}
 
 -- ---- what both kinds share: y is what l says where it is within the limits, and its ACK stands at p
@@ -187,11 +189,14 @@ module _ (l : List ℕ) where
     kind-is : (k : ℕ) → f .kind ≡ k → frameOf (decode l) .kind ≡ k
     kind-is k h = ap (λ (x : Frame). x .kind) (sym e) ∙ h
 
-    pub data-inside : f .kind ≡ 1 → f .start ≤ length l
+    data-inside : f .kind ≡ 1 → f .start ≤ length l
     data-inside h = rw e (part-inside (decode l) refl (kind-is 1 h))
 
-    pub data-is : f .kind ≡ 1 → take (length l - f .start) (drop (f .start) l) ≡ payloadOf (decode l)
-    data-is h = take-all (length l - f .start) (drop (f .start) l) (omega (arith, length-drop (f .start) l)) ∙ rw e (part-is (decode l) refl (kind-is 1 h))
+    pub data-is : f .kind ≡ 1 → partAt l (f .start) (length l) ≡ payloadOf (decode l)
+    data-is h =
+        sym (a-part l (f .start) (length l) (data-inside h) (omega arith))
+        ∙ take-all (length l - f .start) (drop (f .start) l) (omega (arith, length-drop (f .start) l))
+        ∙ rw e (part-is (decode l) refl (kind-is 1 h))
 
     pub no-data : f .kind ≢ 1 → [] ≡ payloadOf (decode l)
     no-data h = no-part (decode l) (λ k. h (ap (λ (x : Frame). x .kind) e ∙ k))

@@ -1,9 +1,7 @@
 // House fields in a slice of bytes.
 ghost use mathlib.Core.Path.{_≡_};
-ghost use Rattle.rules.specs.Fields.{table, tagsOf, fits};
-ghost use Rattle.frame.specs.Field.{fieldAt};
+ghost use Rattle.frame.specs.Field.{fieldAt, partAt};
 use crate::number::number_at;
-use crate::table::has_tag;
 use crate::table::length_fits;
 
 // A field: its content stands from start up to end.
@@ -45,29 +43,15 @@ pub fn field_at(s: &[u8], at: usize, tag: u8) -> Field
     }
 }
 
-// How the loop below comes by the next field.
-fn next_field(s: &[u8], at: usize, tag: u8) -> Field
-    ensures { λ r. ⌜ r ≡ fieldAt (now (s .entry)) at tag ⌝ }
+// The bytes from a place up to another; none where the slice has no such part.
+pub fn part_at(s: &[u8], start: usize, end: usize) -> &[u8]
+    ensures { λ r. ⌜ now r ≡ partAt (now (s .entry)) start end ⌝ }
 {
-    field_at(s, at, tag)
-}
-
-// The bytes are the fields of this kind, each once and in rising tag order, and nothing follows.
-pub fn well_formed(s: &[u8], kind: u8) -> bool
-    ensures { λ r. ⌜ r ≡ fits table (tagsOf table kind) (now (s .entry)) ⌝ }
-{
-    let mut at = 0;
-    let mut tag = 1u8;
-    while tag <= 10 {
-        if has_tag(tag, kind) {
-            let f = next_field(s, at, tag);
-            let ok = f.ok;
-            if !ok {
-                return false;
-            }
-            at = f.end;
-        }
-        tag += 1;
+    if end < start {
+        return &s[..0];
     }
-    at == s.len()
+    if s.len() < end {
+        return &s[..0];
+    }
+    &s[start..end]
 }

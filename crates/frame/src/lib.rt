@@ -7,12 +7,15 @@ mod export;
 mod field;
 mod kind;
 mod number;
+mod reader;
 pub mod table;
 
-use field::well_formed;
+use field::Field;
 use kind::read_data;
 use kind::read_request;
 use kind::refused;
+use reader::content;
+use reader::well_formed;
 
 // What a frame says. With a refusal the answer is 3 and all else 0; what the kind lacks is 0. The data are `len`
 // bytes of the frame from `start` on.
@@ -59,8 +62,14 @@ pub fn payload(s: &[u8]) -> &[u8]
     let f = read(s);
     let kind = f.kind;
     if kind == 1 {
-        let start = f.start;
-        &s[start..]
+        content(
+            s,
+            Field {
+                ok: true,
+                start: f.start,
+                end: s.len(),
+            },
+        )
     } else {
         &s[..0]
     }

@@ -4,3 +4,6 @@ pub mod collector;
 mod item;
 pub mod line;
 pub mod print;
+
+pub use item::Value;
+pub use item::number;

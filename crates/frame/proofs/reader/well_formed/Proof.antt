@@ -1,20 +1,21 @@
--- `well_formed` meets its contract. The invariant: the test of the tags left, from `at` on, is the whole test.
+-- `well_formed` meets its contract. The invariant: the test of the tags left, after the last field passed, is the whole test.
 use borrow.Author.Needs.{needs}
 use native.Mathlib.Omega.{arith}
-use Prim.Native.Nat.{ℕ, _+_, _-_}
+use Prim.Native.Nat.{_+_, _-_}
 use mathlib.Core.Logic.{⊎-elim}
 use mathlib.Core.Path.{sym, _∙_, subst⁻¹}
 use denote.Ref.{now}
 use borrow.Author.Tests.{not-true, not-false}
+use Rattle.frame.specs.declared.field.Field.{Field}
 use Rattle.frame.proofs.Turn.{Walked, none-walked, walked-by, stopped, walked-over, walked-all}
-use Rattle.frame.proofs.field.well_formed.Statement.{statement}
-use Rattle.frame.proofs.field.well_formed.Tie as tie
+use Rattle.frame.proofs.reader.well_formed.Statement.{statement}
+use Rattle.frame.proofs.reader.well_formed.Tie as tie
 
 abbrev Inv-loop : tie.InvT-loop
-Inv-loop s kind at₀ tag₀ at tag = Walked s kind at tag
+Inv-loop s kind last₀ tag₀ last tag = Walked s kind (last .end) tag
 
 abbrev μ-loop : tie.MeasureT-loop
-μ-loop s kind at₀ tag₀ at tag = 11 - tag
+μ-loop s kind last₀ tag₀ last tag = 11 - tag
 
 loop-holds : tie.Need-loop-holds Inv-loop μ-loop
 loop-holds c = none-walked _ _
@@ -41,7 +42,7 @@ loop-again c =
     let l = c .before .before .before .loop in
     let a = c .before .before .before .before .before .args in
     let t = c .before .before .loop-test .taken in
-    let Next : ℕ → Type 0 = λ at. Walked (now (a .s)) (a .kind) at (l .tag + 1) in
+    let Next : Field → Type 0 = λ last. Walked (now (a .s)) (a .kind) (last .end) (l .tag + 1) in
     ⊎-elim
     (λ w. subst⁻¹ Next (w .3) (walked-over _ _ _ _ (l .inv) t (sym (c .before .has-tag .ensures) ∙ w .0 .taken) _ (w .1 .ensures) (not-false _ (w .2 .left))))
     (λ w. subst⁻¹ Next (w .1) (walked-by _ _ _ _ (l .inv) t (sym (c .before .has-tag .ensures) ∙ w .0 .left)))

@@ -1,0 +1,2 @@
+-- What the contracts of the rounds say.
+pub mod Rounds

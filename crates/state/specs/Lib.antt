@@ -1,0 +1,2 @@
+-- What a unit's numbers and arrays show of the rules, and what the functions on them give.
+pub mod View

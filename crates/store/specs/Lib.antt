@@ -1,0 +1,3 @@
+-- What the functions that store and keep messages do to a unit's numbers and arrays, exactly.
+pub mod Arrays
+pub mod Store

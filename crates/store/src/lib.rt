@@ -1,0 +1,134 @@
+// What accepting and keeping a message does to a unit's numbers and arrays.
+pub mod arrays;
+
+ghost use mathlib.Core.Path.{_≡_};
+ghost use Prim.Native.Nat.{_-_};
+ghost use Rattle.store.specs.Store.{lowOf, slotOf, columnStored, numbersStored, placeStored, storedOf, keepingOf, settledOf};
+use lists;
+use state::Core;
+use tables;
+
+// A message to store at a place: the sender follows from the place, and `len` is the length of its data.
+pub struct Accepting {
+    pub place: u8,
+    pub seq: u32,
+    pub ack: [u32; 8],
+    pub buf: u32,
+    pub len: u8,
+}
+
+// How many kept frames are gone, and the numbers then.
+pub struct Next {
+    pub gone: u32,
+    pub core: Core,
+}
+
+// How much x is above y, 0 where it is not.
+fn above(x: u32, y: u32) -> u32
+    ensures { λ r. ⌜ r ≡ x - y ⌝ }
+{
+    if y < x { x - y } else { 0 }
+}
+
+// minAL of the own index.
+fn low(c: Core) -> u32
+    ensures { λ r. ⌜ r ≡ lowOf c ⌝ }
+{
+    let al = c.al;
+    tables::least_of(tables::row(&al, c.me), c.n)
+}
+
+// The slot of the frame to keep next.
+pub fn slot(c: Core) -> u32
+    ensures { λ r. ⌜ r ≡ slotOf c ⌝ }
+{
+    above(c.seq, low(c))
+}
+
+// With column j of AL; kept lengths start at minAL of the own index.
+fn column_stored(c: Core, j: u8, ack: [u32; 8]) -> Next
+    ensures { λ r. ⌜ r ≡ columnStored c j ack ⌝ }
+{
+    let old = low(c);
+    let mut d = c;
+    let al = c.al;
+    let new = tables::with_column(al, j, &ack);
+    d.al = new;
+    let gone = above(low(d), old);
+    let mut kept = c.kept;
+    arrays::move_down(&mut kept, gone as usize);
+    d.kept = kept;
+    Next { gone, core: d }
+}
+
+// With REQ_j, BUF_j and HEARD_j.
+fn numbers_stored(c: Core, j: u8, next: u32, buf: u32) -> Core
+    ensures { λ r. ⌜ r ≡ numbersStored c j next buf ⌝ }
+{
+    let req = c.req;
+    let bufs = c.buf;
+    let heard = c.heard;
+    let r = tables::with(req, j, next);
+    let b = tables::with(bufs, j, buf);
+    let h = tables::with(heard, j, tables::larger(tables::at(&heard, j), next));
+    let mut d = c;
+    d.req = r;
+    d.buf = b;
+    d.heard = h;
+    d
+}
+
+// With number and data length of the message at the place, which waits behind all others.
+fn place_stored(c: Core, place: u8, seq: u32, len: u8) -> Core
+    ensures { λ r. ⌜ r ≡ placeStored c place seq len ⌝ }
+{
+    let mut d = c;
+    let p = place as usize;
+    if p < 128 {
+        d.seqs[p] = seq;
+        d.lens[p] = len;
+    }
+    let order = c.order;
+    let longer = lists::with_last(order, place);
+    d.order = longer;
+    d
+}
+
+// Accepts a message.
+pub fn stored(c: Core, m: Accepting) -> Next
+    ensures { λ r. ⌜ r ≡ storedOf c m ⌝ }
+{
+    let j = m.place / 16 + 1;
+    let ack = m.ack;
+    let s = column_stored(c, j, ack);
+    let d = s.core;
+    let e = numbers_stored(d, j, tables::next(m.seq), m.buf);
+    let f = place_stored(e, m.place, m.seq, m.len);
+    Next { gone: s.gone, core: f }
+}
+
+// Keeps a frame of this length.
+pub fn keeping(c: Core, len: u8) -> Core
+    ensures { λ r. ⌜ r ≡ keepingOf c len ⌝ }
+{
+    let at = slot(c) as usize;
+    let mut d = c;
+    if at < 4 {
+        d.kept[at] = len;
+    }
+    d.seq = tables::next(c.seq);
+    d
+}
+
+// Pre-acknowledges and confirms what can be.
+pub fn settled(c: Core, acks: &[u32]) -> Core
+    ensures { λ r. ⌜ r ≡ settledOf c (now (acks .entry)) ⌝ }
+{
+    let order = c.order;
+    let al = c.al;
+    let seqs = c.seqs;
+    let o = lists::settled(order, &al, &seqs, acks, c.n);
+    let mut d = c;
+    d.order = o;
+    d
+}

@@ -1,53 +1,64 @@
+-- `sound` meets its contract.
+use mathlib.Core.Path.{sym, _∙_}
 use borrow.Author.Needs.{needs}
+use borrow.Author.Tests.{eq-eqb, ne-eqb, not-true, not-false}
+use Rattle.rules.proofs.SoundLaws.{rangesFit-facts}
+use Rattle.state.specs.Soundness.{soundOf}
 use Rattle.state.proofs.sound.Statement.{statement}
 use Rattle.state.proofs.sound.Tie as tie
-use Rattle.state.proofs.sound.Reads as reads
-use Rattle.state.proofs.sound.Lts as lts
-use Rattle.state.proofs.soundness.nexts_fit.Reads as nexts-fit-reads
-use Rattle.state.proofs.soundness.places_fit.Reads as places-fit-reads
-use Rattle.state.proofs.soundness.ranges_fit.Reads as ranges-fit-reads
-use Rattle.state.proofs.soundness.window_fits.Reads as window-fits-reads
-use Rattle.tables.proofs.at.Reads as at-reads
 
--- src/lib.rt:38:9
 ranges-fit-requires : tie.Need-ranges-fit-requires
 ranges-fit-requires c κs = search needs
 
--- src/lib.rt:39:9
 returns : tie.Need-returns
-returns c = search needs
+unfolding soundOf
+returns c =
+    let ranges = c .before .ranges-fit in
+    rw (← ranges .ensures, not-true (ranges .result) (c .if1 .taken))
 
--- src/lib.rt:41:9
 nexts-fit-requires : tie.Need-nexts-fit-requires
 nexts-fit-requires c κs = search needs
 
--- src/lib.rt:42:9
 returns-2 : tie.Need-returns-2
-returns-2 c = search needs
+unfolding soundOf
+returns-2 c =
+    let ranges = c .before .before .before .ranges-fit in
+    let nexts = c .before .nexts-fit in
+    rw (← ranges .ensures, not-false (ranges .result) (c .before .before .if1 .left), ← nexts .ensures, not-true (nexts .result) (c .if2 .taken))
 
--- src/lib.rt:44:8
 at-requires : tie.Need-at-requires
 at-requires c κs = search needs
 
--- src/lib.rt:45:9
 returns-3 : tie.Need-returns-3
-returns-3 c = search needs
+unfolding soundOf
+returns-3 c =
+    let ranges = c .before .before .before .before .before .before .before .before .ranges-fit in
+    let nexts = c .before .before .before .before .before .before .nexts-fit in
+    rw (← ranges .ensures, not-false (ranges .result) (c .before .before .before .before .before .before .before .if1 .left), ← nexts .ensures, not-false (nexts .result) (c .before .before .before .before .before .if2 .left), ← c .before .at .ensures, ne-eqb _ _ (c .if3 .taken))
 
--- src/lib.rt:47:9
 window-fits-requires : tie.Need-window-fits-requires
 window-fits-requires c κs = search needs
 
--- src/lib.rt:48:9
 returns-4 : tie.Need-returns-4
-returns-4 c = search needs
+unfolding soundOf
+returns-4 c =
+    let ranges = c .before .before .before .before .before .before .before .before .before .before .ranges-fit in
+    let nexts = c .before .before .before .before .before .before .before .before .nexts-fit in
+    let window = c .before .window-fits in
+    rw (← ranges .ensures, not-false (ranges .result) (c .before .before .before .before .before .before .before .before .before .if1 .left), ← nexts .ensures, not-false (nexts .result) (c .before .before .before .before .before .before .before .if2 .left), ← c .before .before .before .at .ensures, eq-eqb _ _ (c .before .before .if3 .left), ← window .ensures, not-true (window .result) (c .if4 .taken))
 
--- src/lib.rt:50:5
 places-fit-requires : tie.Need-places-fit-requires
-places-fit-requires c κs = search needs
+places-fit-requires c κs =
+    let ranges = c .before .before .before .before .before .before .before .before .before .before .ranges-fit in
+    rangesFit-facts _ _ _ (sym (ranges .ensures) ∙ not-false (ranges .result) (c .before .before .before .before .before .before .before .before .before .if1 .left)) .n-high
 
--- src/lib.rt:35:1
 returns-5 : tie.Need-returns-5
-returns-5 c = search needs
+unfolding soundOf
+returns-5 c =
+    let ranges = c .before .before .before .before .before .before .before .before .before .before .before .ranges-fit in
+    let nexts = c .before .before .before .before .before .before .before .before .before .nexts-fit in
+    let window = c .before .before .window-fits in
+    rw (← ranges .ensures, not-false (ranges .result) (c .before .before .before .before .before .before .before .before .before .before .if1 .left), ← nexts .ensures, not-false (nexts .result) (c .before .before .before .before .before .before .before .before .if2 .left), ← c .before .before .before .before .at .ensures, eq-eqb _ _ (c .before .before .before .if3 .left), ← window .ensures, not-false (window .result) (c .before .if4 .left)) (c .places-fit .ensures)
 
 pub sound-spec : {M : Type 1} → statement M
 sound-spec =

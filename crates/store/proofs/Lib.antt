@@ -1,1 +1,4 @@
 -- Laws that the proofs of the functions cite.
+pub mod CoreLaws
+pub mod DownLaws
+pub mod RunLaws

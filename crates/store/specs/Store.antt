@@ -4,6 +4,7 @@ use Prim.Native.Nat.{ℕ, _+_, _-_, min, max}
 use lib.ListN.{set}
 use Rattle.rules.specs.Maps.{at, least}
 use Rattle.tables.specs.Rows.{rowOf, withColumn}
+use Rattle.lists.specs.declared.Order.{Order}
 use Rattle.lists.specs.Order.{senderOf, withLast}
 use Rattle.lists.specs.Settle as settling
 use Rattle.state.specs.declared.Core.{Core}
@@ -19,47 +20,39 @@ lowOf c = least (c .n) (at (rowOf (c .al) (c .me)))
 abbrev pub after : ℕ → ℕ
 after x = min (x + 1) 4294967295
 
--- the slot of the frame to keep next
-unfoldable pub slotOf : Core → ℕ
-slotOf c = c .seq - lowOf c
+-- ---- c, with some of its fields anew
 
--- AL has ACK as column j, and kept lengths start at minAL of the own index, which rose by `gone`
-unfoldable pub columnStored : Core → ℕ → List ℕ → Next
-columnStored c j ack =
-    let al : List ℕ = withColumn (c .al) j ack in
-    let gone : ℕ = least (c .n) (at (rowOf al (c .me))) - lowOf c in
-    record {
-      gone = gone;
-      core =
-          record {
-            me = c .me;
-            n = c .n;
-            w = c .w;
-            cid = c .cid;
-            seq = c .seq;
-            req = c .req;
-            heard = c .heard;
-            buf = c .buf;
-            al = al;
-            kept = down (c .kept) gone;
-            seqs = c .seqs;
-            lens = c .lens;
-            order = c .order;
-          };
-    }
-
--- REQ_j is the next number, BUF_j is set, and HEARD_j raised to REQ_j where it is less
-unfoldable pub numbersStored : Core → ℕ → ℕ → ℕ → Core
-numbersStored c j next buf =
+-- AL, and the kept lengths
+abbrev pub withTable : Core → List ℕ → List ℕ → Core
+withTable c al kept =
     record {
       me = c .me;
       n = c .n;
       w = c .w;
       cid = c .cid;
       seq = c .seq;
-      req = set (c .req) (j - 1) next;
-      heard = set (c .heard) (j - 1) (max (at (c .heard) j) next);
-      buf = set (c .buf) (j - 1) buf;
+      req = c .req;
+      heard = c .heard;
+      buf = c .buf;
+      al = al;
+      kept = kept;
+      seqs = c .seqs;
+      lens = c .lens;
+      order = c .order;
+    }
+
+-- REQ, HEARD and BUF
+abbrev pub withRows : Core → List ℕ → List ℕ → List ℕ → Core
+withRows c req heard buf =
+    record {
+      me = c .me;
+      n = c .n;
+      w = c .w;
+      cid = c .cid;
+      seq = c .seq;
+      req = req;
+      heard = heard;
+      buf = buf;
       al = c .al;
       kept = c .kept;
       seqs = c .seqs;
@@ -67,9 +60,9 @@ numbersStored c j next buf =
       order = c .order;
     }
 
--- number and length of the message stand at the place, and the place waits behind all others
-unfoldable pub placeStored : Core → ℕ → ℕ → ℕ → Core
-placeStored c place seq len =
+-- numbers and lengths of the places, and their order
+abbrev pub withPlace : Core → List ℕ → List ℕ → Order → Core
+withPlace c seqs lens order =
     record {
       me = c .me;
       n = c .n;
@@ -81,10 +74,66 @@ placeStored c place seq len =
       buf = c .buf;
       al = c .al;
       kept = c .kept;
-      seqs = set (c .seqs) place seq;
-      lens = set (c .lens) place len;
-      order = withLast (c .order) place;
+      seqs = seqs;
+      lens = lens;
+      order = order;
     }
+
+-- SEQ, and the kept lengths
+abbrev pub withSeq : Core → ℕ → List ℕ → Core
+withSeq c seq kept =
+    record {
+      me = c .me;
+      n = c .n;
+      w = c .w;
+      cid = c .cid;
+      seq = seq;
+      req = c .req;
+      heard = c .heard;
+      buf = c .buf;
+      al = c .al;
+      kept = kept;
+      seqs = c .seqs;
+      lens = c .lens;
+      order = c .order;
+    }
+
+-- the order of the places
+abbrev pub withOrder : Core → Order → Core
+withOrder c order =
+    record {
+      me = c .me;
+      n = c .n;
+      w = c .w;
+      cid = c .cid;
+      seq = c .seq;
+      req = c .req;
+      heard = c .heard;
+      buf = c .buf;
+      al = c .al;
+      kept = c .kept;
+      seqs = c .seqs;
+      lens = c .lens;
+      order = order;
+    }
+
+-- ---- accept, keep, settle
+
+-- AL has ACK as column j, and kept lengths start at minAL of the own index, which rose by `gone`
+unfoldable pub columnStored : Core → ℕ → List ℕ → Next
+columnStored c j ack =
+    let al : List ℕ = withColumn (c .al) j ack in
+    let gone : ℕ = least (c .n) (at (rowOf al (c .me))) - lowOf c in
+    record { gone = gone; core = withTable c al (down (c .kept) gone) }
+
+-- REQ_j is the next number, BUF_j is set, and HEARD_j raised to REQ_j where it is less
+unfoldable pub numbersStored : Core → ℕ → ℕ → ℕ → Core
+numbersStored c j next buf =
+    withRows c (set (c .req) (j - 1) next) (set (c .heard) (j - 1) (max (at (c .heard) j) next)) (set (c .buf) (j - 1) buf)
+
+-- number and length of the message stand at the place, and the place waits behind all others
+unfoldable pub placeStored : Core → ℕ → ℕ → ℕ → Core
+placeStored c place seq len = withPlace c (set (c .seqs) place seq) (set (c .lens) place len) (withLast (c .order) place)
 
 -- the message is accepted
 unfoldable pub storedOf : Core → Accepting → Next
@@ -96,40 +145,14 @@ storedOf c m =
       core = placeStored (numbersStored (s .core) j (after (m .seq)) (m .buf)) (m .place) (m .seq) (m .len);
     }
 
+-- the slot of the frame to keep next
+unfoldable pub slotOf : Core → ℕ
+slotOf c = c .seq - lowOf c
+
 -- a frame of this length is kept, and SEQ raised
 unfoldable pub keepingOf : Core → ℕ → Core
-keepingOf c len =
-    record {
-      me = c .me;
-      n = c .n;
-      w = c .w;
-      cid = c .cid;
-      seq = after (c .seq);
-      req = c .req;
-      heard = c .heard;
-      buf = c .buf;
-      al = c .al;
-      kept = set (c .kept) (slotOf c) len;
-      seqs = c .seqs;
-      lens = c .lens;
-      order = c .order;
-    }
+keepingOf c len = withSeq c (after (c .seq)) (set (c .kept) (slotOf c) len)
 
 -- what can be is pre-acknowledged and confirmed
 unfoldable pub settledOf : Core → List ℕ → Core
-settledOf c acks =
-    record {
-      me = c .me;
-      n = c .n;
-      w = c .w;
-      cid = c .cid;
-      seq = c .seq;
-      req = c .req;
-      heard = c .heard;
-      buf = c .buf;
-      al = c .al;
-      kept = c .kept;
-      seqs = c .seqs;
-      lens = c .lens;
-      order = settling.settledOf (c .order) (c .al) (c .seqs) acks (c .n);
-    }
+settledOf c acks = withOrder c (settling.settledOf (c .order) (c .al) (c .seqs) acks (c .n))

@@ -82,14 +82,18 @@ fn numbers_stored(c: Core, j: u8, next: u32, buf: u32) -> Core
 fn place_stored(c: Core, place: u8, seq: u32, len: u8) -> Core
     ensures { λ r. ⌜ r ≡ placeStored c place seq len ⌝ }
 {
-    let mut d = c;
+    let mut seqs = c.seqs;
+    let mut lens = c.lens;
+    let order = c.order;
     let p = place as usize;
     if p < 128 {
-        d.seqs[p] = seq;
-        d.lens[p] = len;
+        seqs[p] = seq;
+        lens[p] = len;
     }
-    let order = c.order;
     let longer = lists::with_last(order, place);
+    let mut d = c;
+    d.seqs = seqs;
+    d.lens = lens;
     d.order = longer;
     d
 }
@@ -104,7 +108,10 @@ pub fn stored(c: Core, m: Accepting) -> Next
     let d = s.core;
     let e = numbers_stored(d, j, tables::next(m.seq), m.buf);
     let f = place_stored(e, m.place, m.seq, m.len);
-    Next { gone: s.gone, core: f }
+    Next {
+        gone: s.gone,
+        core: f,
+    }
 }
 
 // Keeps a frame of this length.
@@ -112,11 +119,14 @@ pub fn keeping(c: Core, len: u8) -> Core
     ensures { λ r. ⌜ r ≡ keepingOf c len ⌝ }
 {
     let at = slot(c) as usize;
-    let mut d = c;
+    let next = tables::next(c.seq);
+    let mut kept = c.kept;
     if at < 4 {
-        d.kept[at] = len;
+        kept[at] = len;
     }
-    d.seq = tables::next(c.seq);
+    let mut d = c;
+    d.seq = next;
+    d.kept = kept;
     d
 }
 

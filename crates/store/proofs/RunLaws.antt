@@ -1,0 +1,44 @@
+-- Runs of stores that may reach past the end, and what is read afterwards.
+use mathlib.Core.Bool.{Bool}
+use mathlib.Core.List.{List, [], _∷_}
+use mathlib.Core.Logic.{_≢_}
+use mathlib.Core.Path.{_≡_, refl, sym, ap, _∙_}
+use Prim.Native.Nat.{ℕ, zero, suc, _+_, _-_, _≤_, _<_}
+use native.Mathlib.Omega.{arith}
+use native.Mathlib.Nat.{add-zero}
+use lib.ListN.{length, getD, drop, set, length-set}
+use lib.Seq.{sets, set-out, getD-set-same, getD-set-other}
+use Rattle.frame.proofs.Stores.{Stored}
+
+sets-past : (d : List ℕ) (at : ℕ) (l : List ℕ) → length d ≤ at → sets d at l ≡ d
+sets-past d at [] h = refl
+sets-past d at (x ∷ l) h =
+    ap (λ (e : List ℕ). sets e (suc at) l) (set-out d at x h) ∙ sets-past d (suc at) l (omega arith)
+
+-- a loop that stores one number after the other has come to the end of the array
+pub past-stored : (d₀ : List ℕ) (at : ℕ) (l d : List ℕ) (i : ℕ) → Stored d₀ at l d i → length d ≤ at + i → d ≡ sets d₀ at l
+past-stored d₀ at l d i s h = sym (sets-past d (at + i) (drop i l) h) ∙ s .rest
+
+-- ---- reads
+
+pub getD-sets-before : (d : List ℕ) (at : ℕ) (l : List ℕ) (q : ℕ) → q < at → getD (sets d at l) q 0 ≡ getD d q 0
+getD-sets-before d at [] q h = refl
+getD-sets-before d at (x ∷ l) q h =
+    getD-sets-before (set d at x) (suc at) l q (omega arith)
+    ∙ getD-set-other d at q x 0 (let e : q ≢ at = (λ e. omega arith) in e)
+
+pub getD-sets-behind : (d : List ℕ) (at : ℕ) (l : List ℕ) (q : ℕ) → at + length l ≤ q → getD (sets d at l) q 0 ≡ getD d q 0
+getD-sets-behind d at [] q h = refl
+getD-sets-behind d at (x ∷ l) q h =
+    getD-sets-behind (set d at x) (suc at) l q (omega arith)
+    ∙ getD-set-other d at q x 0 (let e : q ≢ at = (λ e. omega arith) in e)
+
+pub getD-sets : (d : List ℕ) (at : ℕ) (l : List ℕ) (i : ℕ) → i < length l → at + i < length d → getD (sets d at l) (at + i) 0 ≡ getD l i 0
+getD-sets d at [] i h k = absurd (omega arith)
+getD-sets d at (x ∷ l) zero h k =
+    ap (λ (q : ℕ). getD (sets (set d at x) (suc at) l) q 0) (add-zero at)
+    ∙ getD-sets-before (set d at x) (suc at) l at (omega arith)
+    ∙ getD-set-same d at x 0 (omega arith)
+getD-sets d at (x ∷ l) (suc i) h k =
+    ap (λ (q : ℕ). getD (sets (set d at x) (suc at) l) q 0) (let e : at + suc i ≡ suc at + i = omega arith in e)
+    ∙ getD-sets (set d at x) (suc at) l i (omega arith) (omega (arith, length-set d at x))

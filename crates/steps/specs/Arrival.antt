@@ -14,7 +14,7 @@ use Rattle.state.specs.Soundness.{soundOf}
 use Rattle.frame.specs.declared.Frame.{Frame}
 use Rattle.frame.specs.Frame.{frameOf}
 use Rattle.store.specs.declared.Accepting.{Accepting}
-use Rattle.store.specs.declared.Stored.{Stored}
+use Rattle.store.specs.declared.Next.{Next}
 use Rattle.store.specs.Store.{storedOf}
 use Rattle.steps.specs.declared.Arrival.{Arrival}
 use Rattle.steps.specs.Checks.{answerOf, dataChecks, requestChecks, resendFrom}
@@ -66,7 +66,7 @@ acceptingOf c f =
 -- the message of f is stored
 unfoldable pub storing : Core → Frame → Arrival
 storing c f =
-    let s : Stored = storedOf c (acceptingOf c f) in
+    let s : Next = storedOf c (acceptingOf c f) in
     record {
       answer = 0;
       first = 0;

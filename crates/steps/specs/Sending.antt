@@ -7,7 +7,7 @@ use Rattle.lists.specs.Order.{total}
 use Rattle.state.specs.declared.Core.{Core}
 use Rattle.state.specs.Soundness.{soundOf}
 use Rattle.store.specs.declared.Accepting.{Accepting}
-use Rattle.store.specs.declared.Stored.{Stored}
+use Rattle.store.specs.declared.Next.{Next}
 use Rattle.store.specs.Store.{slotOf, keepingOf, storedOf}
 use Rattle.steps.specs.declared.Sending.{Sending}
 use Rattle.steps.specs.Checks.{answerOf, sendChecks}
@@ -30,7 +30,7 @@ ownAccepting c len =
 -- the frame is kept, and its message stored
 unfoldable pub sendingOwn : Core → ℕ → Sending
 sendingOwn c len =
-    let s : Stored = storedOf (keepingOf c (frameLength c len)) (ownAccepting c len) in
+    let s : Next = storedOf (keepingOf c (frameLength c len)) (ownAccepting c len) in
     record {
       answer = 0;
       buf = freePlaces c;

@@ -2,7 +2,7 @@
 mod asked;
 mod data;
 mod place;
-mod send;
+mod own;
 
 use frame;
 use frame::Frame;
@@ -68,7 +68,7 @@ fn of_group(c: Core, f: Frame) -> bool
 }
 
 // The bytes s arrive.
-pub fn arrival<'a>(c: Core, acks: &'a [u32], s: &'a [u8]) -> Arrival
+pub fn arrive<'a>(c: Core, acks: &'a [u32], s: &'a [u8]) -> Arrival
     ensures { λ r. ⌜ r ≡ arrivalOf c (now (acks .entry)) (decode (now (s .entry))) ⌝ }
 {
     if !state::sound(c, acks) {
@@ -99,11 +99,11 @@ fn refused(answer: u32, c: Core) -> Sending
 }
 
 // Data of len bytes are sent, with room bytes of output.
-pub fn sending(c: Core, acks: &[u32], len: usize, room: usize) -> Sending
+pub fn send(c: Core, acks: &[u32], len: usize, room: usize) -> Sending
     ensures { λ r. ⌜ r ≡ sendingOf c (now (acks .entry)) len room ⌝ }
 {
     if !state::sound(c, acks) {
         return refused(1, c);
     }
-    send::checked(c, len, room)
+    own::checked(c, len, room)
 }

@@ -60,14 +60,14 @@ fn free_places(c: Core) -> u16
 }
 
 // The frame is kept, and its message stored at the first free place.
-fn own(c: Core, len: usize) -> Sending
+fn kept(c: Core, len: usize) -> Sending
     requires { ⌜ Ranged c × (len ≤ 48) ⌝ }
     ensures { λ r. ⌜ r ≡ sendingOwn c len ⌝ }
 {
     let ack = c.req;
     let buf = free_places(c);
     let place = place::first_free(c, c.me);
-    let kept = store::keeping(c, (37 + 4 * (c.n as usize) + len) as u8);
+    let next = store::keeping(c, (37 + 4 * (c.n as usize) + len) as u8);
     let m = Accepting {
         place,
         seq: c.seq,
@@ -75,7 +75,7 @@ fn own(c: Core, len: usize) -> Sending
         buf: buf as u32,
         len: len as u8,
     };
-    let s = store::stored(kept, m);
+    let s = store::stored(next, m);
     Sending {
         answer: 0,
         buf,
@@ -92,7 +92,7 @@ pub fn checked(c: Core, len: usize, room: usize) -> Sending
 {
     let a = answer(c, len, room);
     if a == 0 {
-        return own(c, len);
+        return kept(c, len);
     }
     refused(a, c)
 }

@@ -1,0 +1,3 @@
+-- Laws of a unit's numbers.
+pub mod MarkLaws
+pub mod PlaceLaws

@@ -1,4 +1,6 @@
 -- Laws that the proofs of the functions cite.
 pub mod CoreLaws
 pub mod DownLaws
+pub mod LookLaws
 pub mod RunLaws
+pub mod SettledLook

@@ -5,9 +5,11 @@ use mathlib.Core.Logic.{_≢_}
 use mathlib.Core.Path.{_≡_, refl, sym, ap, _∙_}
 use Prim.Native.Nat.{ℕ, zero, suc, _+_, _-_, _≤_, _<_}
 use native.Mathlib.Omega.{arith}
-use native.Mathlib.Nat.{add-zero}
+use native.Mathlib.Nat.{zero-add, add-zero}
 use lib.ListN.{length, getD, drop, set, length-set}
 use lib.Seq.{sets, set-out, getD-set-same, getD-set-other}
+use Rattle.tables.specs.Rows.{part}
+use Rattle.tables.proofs.ListedLaws.{listed-same}
 use Rattle.frame.proofs.Stores.{Stored}
 
 sets-past : (d : List ℕ) (at : ℕ) (l : List ℕ) → length d ≤ at → sets d at l ≡ d
@@ -42,3 +44,18 @@ getD-sets d at (x ∷ l) zero h k =
 getD-sets d at (x ∷ l) (suc i) h k =
     ap (λ (q : ℕ). getD (sets (set d at x) (suc at) l) q 0) (let e : at + suc i ≡ suc at + i = omega arith in e)
     ∙ getD-sets (set d at x) (suc at) l i (omega arith) (omega (arith, length-set d at x))
+
+-- ---- parts
+
+pub part-before : (d : List ℕ) (at : ℕ) (l : List ℕ) (a m : ℕ) → a + m ≤ at → part (sets d at l) a m ≡ part d a m
+part-before d at l a m h =
+    listed-same a a m (λ i. getD (sets d at l) i 0) (λ i. getD d i 0) (λ i x. getD-sets-before d at l (a + i) (omega arith))
+
+pub part-behind : (d : List ℕ) (at : ℕ) (l : List ℕ) (a m : ℕ) → at + length l ≤ a → part (sets d at l) a m ≡ part d a m
+part-behind d at l a m h =
+    listed-same a a m (λ i. getD (sets d at l) i 0) (λ i. getD d i 0) (λ i x. getD-sets-behind d at l (a + i) (omega arith))
+
+pub part-stored : (d : List ℕ) (at : ℕ) (l : List ℕ) (m : ℕ) → m ≤ length l → at + m ≤ length d → part (sets d at l) at m ≡ part l 0 m
+part-stored d at l m h k =
+    listed-same at 0 m (λ i. getD (sets d at l) i 0) (λ i. getD l i 0)
+    (λ i x. getD-sets d at l i (omega arith) (omega arith) ∙ ap (λ (q : ℕ). getD l q 0) (sym (zero-add i)))

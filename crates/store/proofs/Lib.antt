@@ -1,6 +1,7 @@
 -- Laws that the proofs of the functions cite.
 pub mod CoreLaws
 pub mod DownLaws
+pub mod KeepingLook
 pub mod LookLaws
 pub mod RunLaws
 pub mod SettledLook

@@ -2,11 +2,11 @@
 use mathlib.Core.Bool.{Bool, cond}
 use mathlib.Core.List.{List, []}
 use mathlib.Core.Logic.{_≢_}
-use mathlib.Core.Path.{_≡_, refl, sym, ap, _∙_, fun-ext}
+use mathlib.Core.Path.{_≡_, ap, _∙_, fun-ext}
 use Prim.Native.Nat.{ℕ, suc, _+_, _-_, _*_, _≤_, _<_}
 use native.Mathlib.Omega.{arith}
 use lib.Dec.{leb, ltb}
-use lib.ListN.{length, getD, take, set}
+use lib.ListN.{length, getD, take, length-take}
 use lib.Seq.{getD-set-same, getD-set-other, take-all, sets}
 use borrow.Author.Tests.{le-leb, lt-leb, lt-ltb, le-ltb}
 use Rattle.rules.specs.Maps.{upd}
@@ -23,27 +23,7 @@ use Rattle.store.specs.Arrays.{withFrame}
 use Rattle.store.specs.Store.{after, keptSlot, keepingOf}
 use Rattle.store.specs.Fits.{Keeps}
 use Rattle.store.proofs.LookLaws.{lowest-is}
-use Rattle.store.proofs.RunLaws.{part-before, part-stored}
-
--- s, with another SEQ and other kept frames
-abbrev changed : State → ℕ → (ℕ → List ℕ) → State
-changed s seq kept =
-    record {
-      me = s .me;
-      n = s .n;
-      w = s .w;
-      cid = s .cid;
-      seq = seq;
-      req = s .req;
-      al = s .al;
-      pal = s .pal;
-      buf = s .buf;
-      heard = s .heard;
-      kept = kept;
-      waiting = s .waiting;
-      ordered = s .ordered;
-      confirmed = s .confirmed;
-    }
+use Rattle.store.proofs.RunLaws.{part-apart, part-stored}
 
 module _ (c : Core) (frames f : List ℕ) (K : Keeps c frames) (short : length f ≤ 117) where
   abbrev new : Core
@@ -70,8 +50,9 @@ module _ (c : Core) (frames f : List ℕ) (K : Keeps c frames) (short : length f
   kept-there : (i : ℕ) → i < keptSlot c → keptAt new slots i ≡ keptAt c frames i
   unfolding keepingOf withFrame
   kept-there i h =
-      ap (part (sets frames (117 * keptSlot c) (take 117 f)) (117 * i)) (getD-set-other (c .kept) (keptSlot c) i (length f) 0 (let d : i ≢ keptSlot c = (λ e. omega arith) in d))
-      ∙ part-before frames (117 * keptSlot c) (take 117 f) (117 * i) (getD (c .kept) i 0) (omega (arith, K .fit i h))
+      let apart : i ≢ keptSlot c = (λ e. omega arith) in
+      ap (part (sets frames (117 * keptSlot c) (take 117 f)) (117 * i)) (getD-set-other (c .kept) (keptSlot c) i (length f) 0 apart)
+      ∙ part-apart 117 frames (keptSlot c) (take 117 f) i (getD (c .kept) i 0) apart (K .fit i h) (omega (arith, length-take 117 f))
 
   new-kept : keptOf new slots ≡ upd (keptOf c frames) (c .seq) f
   unfolding keepingOf keptOf upd
@@ -94,8 +75,22 @@ module _ (c : Core) (frames f : List ℕ) (K : Keeps c frames) (short : length f
 pub keeping-look : (c : Core) (acks bytes frames : List ℕ) (m : Message) → Keeps c frames → length (encode (message m)) ≤ 117
     → look (keepingOf c (length (encode (message m)))) acks bytes (withFrame frames (keptSlot c) (encode (message m))) ≡ keeping (look c acks bytes frames) m
 unfolding look placeAt keepingOf
-keeping-look c acks bytes frames m K short =
-    let f : List ℕ = encode (message m) in
+keeping-look c acks bytes frames m K short i =
     let s : State = look c acks bytes frames in
-    ap (λ (q : ℕ). changed s q (keptOf (keepingOf c (length f)) (withFrame frames (keptSlot c) f))) (let e : after (c .seq) ≡ suc (c .seq) = omega (arith, K .seq) in e)
-    ∙ ap (changed s (suc (c .seq))) (new-kept c frames f K short)
+    let next : after (c .seq) ≡ suc (c .seq) = omega (arith, K .seq) in
+    record {
+      me = s .me;
+      n = s .n;
+      w = s .w;
+      cid = s .cid;
+      seq = next i;
+      req = s .req;
+      al = s .al;
+      pal = s .pal;
+      buf = s .buf;
+      heard = s .heard;
+      kept = new-kept c frames (encode (message m)) K short i;
+      waiting = s .waiting;
+      ordered = s .ordered;
+      confirmed = s .confirmed;
+    }

@@ -3,5 +3,7 @@ pub mod CoreLaws
 pub mod DownLaws
 pub mod KeepingLook
 pub mod LookLaws
+pub mod RowLaws
 pub mod RunLaws
 pub mod SettledLook
+pub mod TakenLaws

@@ -2,19 +2,16 @@
 use mathlib.Core.List.{List}
 use Prim.Native.Nat.{ℕ, _+_, _-_, min, max}
 use lib.ListN.{set}
-use Rattle.rules.specs.Maps.{at, least}
-use Rattle.tables.specs.Rows.{rowOf, withColumn}
+use Rattle.rules.specs.Maps.{at}
+use Rattle.tables.specs.Rows.{withColumn}
 use Rattle.lists.specs.declared.Order.{Order}
 use Rattle.lists.specs.Order.{senderOf, withLast}
 use Rattle.lists.specs.Settle as settling
 use Rattle.state.specs.declared.Core.{Core}
+use Rattle.state.specs.Soundness.{ownLow}
 use Rattle.store.specs.declared.Accepting.{Accepting}
 use Rattle.store.specs.declared.Next.{Next}
 use Rattle.store.specs.Arrays.{down}
-
--- minAL of the own index
-abbrev pub lowOf : Core → ℕ
-lowOf c = least (c .n) (at (rowOf (c .al) (c .me)))
 
 -- the number after x, where one fits
 abbrev pub after : ℕ → ℕ
@@ -123,7 +120,7 @@ withOrder c order =
 unfoldable pub columnStored : Core → ℕ → List ℕ → Next
 columnStored c j ack =
     let al : List ℕ = withColumn (c .al) j ack in
-    let gone : ℕ = least (c .n) (at (rowOf al (c .me))) - lowOf c in
+    let gone : ℕ = ownLow (withTable c al (c .kept)) - ownLow c in
     record { gone = gone; core = withTable c al (down (c .kept) gone) }
 
 -- REQ_j is the next number, BUF_j is set, and HEARD_j raised to REQ_j where it is less
@@ -146,12 +143,12 @@ storedOf c m =
     }
 
 -- the slot of the frame to keep next
-unfoldable pub slotOf : Core → ℕ
-slotOf c = c .seq - lowOf c
+unfoldable pub keptSlot : Core → ℕ
+keptSlot c = c .seq - ownLow c
 
 -- a frame of this length is kept, and SEQ raised
 unfoldable pub keepingOf : Core → ℕ → Core
-keepingOf c len = withSeq c (after (c .seq)) (set (c .kept) (slotOf c) len)
+keepingOf c len = withSeq c (after (c .seq)) (set (c .kept) (keptSlot c) len)
 
 -- what can be is pre-acknowledged and confirmed
 unfoldable pub settledOf : Core → List ℕ → Core

@@ -3,9 +3,10 @@ pub mod arrays;
 
 ghost use mathlib.Core.Path.{_≡_};
 ghost use Prim.Native.Nat.{_-_};
-ghost use Rattle.store.specs.Store.{lowOf, slotOf, columnStored, numbersStored, placeStored, storedOf, keepingOf, settledOf};
+ghost use Rattle.store.specs.Store.{keptSlot, columnStored, numbersStored, placeStored, storedOf, keepingOf, settledOf};
 use lists;
 use state::Core;
+use state::own_low;
 use tables;
 
 // A message to store at a place: the sender follows from the place, and `len` is the length of its data.
@@ -30,31 +31,23 @@ fn above(x: u32, y: u32) -> u32
     if y < x { x - y } else { 0 }
 }
 
-// minAL of the own index.
-fn low(c: Core) -> u32
-    ensures { λ r. ⌜ r ≡ lowOf c ⌝ }
-{
-    let al = c.al;
-    tables::least_of(tables::row(&al, c.me), c.n)
-}
-
 // The slot of the frame to keep next.
-pub fn slot(c: Core) -> u32
-    ensures { λ r. ⌜ r ≡ slotOf c ⌝ }
+pub fn kept_slot(c: Core) -> u32
+    ensures { λ r. ⌜ r ≡ keptSlot c ⌝ }
 {
-    above(c.seq, low(c))
+    above(c.seq, own_low(c))
 }
 
 // With column j of AL; kept lengths start at minAL of the own index.
 fn column_stored(c: Core, j: u8, ack: [u32; 8]) -> Next
     ensures { λ r. ⌜ r ≡ columnStored c j ack ⌝ }
 {
-    let old = low(c);
+    let old = own_low(c);
     let mut d = c;
     let al = c.al;
     let new = tables::with_column(al, j, &ack);
     d.al = new;
-    let gone = above(low(d), old);
+    let gone = above(own_low(d), old);
     let mut kept = c.kept;
     arrays::move_down(&mut kept, gone as usize);
     d.kept = kept;
@@ -118,7 +111,7 @@ pub fn stored(c: Core, m: Accepting) -> Next
 pub fn keeping(c: Core, len: u8) -> Core
     ensures { λ r. ⌜ r ≡ keepingOf c len ⌝ }
 {
-    let at = slot(c) as usize;
+    let at = kept_slot(c) as usize;
     let next = tables::next(c.seq);
     let mut kept = c.kept;
     if at < 4 {

@@ -4,8 +4,8 @@ use borrow.Author.Needs.{needs}
 use Rattle.store.proofs.column_stored.Statement.{statement}
 use Rattle.store.proofs.column_stored.Tie as tie
 
-low-requires : tie.Need-low-requires
-low-requires c κs = search needs
+own-low-requires : tie.Need-own-low-requires
+own-low-requires c κs = search needs
 
 slice-aggregate-with-column : tie.Need-slice-aggregate-with-column
 slice-aggregate-with-column c = search needs
@@ -13,8 +13,8 @@ slice-aggregate-with-column c = search needs
 with-column-requires : tie.Need-with-column-requires
 with-column-requires c κs = search needs
 
-low-requires-2 : tie.Need-low-requires-2
-low-requires-2 c κs = search needs
+own-low-requires-2 : tie.Need-own-low-requires-2
+own-low-requires-2 c κs = search needs
 
 above-requires : tie.Need-above-requires
 above-requires c κs = search needs
@@ -32,17 +32,17 @@ returns : tie.Need-returns
 returns c =
     let q = c .before .before .before .before in
     let s = q .before .before .before .before .before .before .args in
-    column-made (s .c) (s .j) _ _ _ _ _ _ (q .before .before .with-column .ensures) (q .before .before .before .before .before .low .ensures)
-    (q .before .low2 .ensures) (q .above .ensures) (c .before .move-down .ensures)
+    column-made (s .c) (s .j) _ _ _ _ _ _ (q .before .before .with-column .ensures) (q .before .before .before .before .before .own-low .ensures)
+    (q .before .own-low2 .ensures) (q .above .ensures) (c .before .move-down .ensures)
 
 pub column-stored-spec : {M : Type 1} → statement M
 column-stored-spec =
     tie.close
     (tie.spec
-    low-requires
+    own-low-requires
     slice-aggregate-with-column
     with-column-requires
-    low-requires-2
+    own-low-requires-2
     above-requires
     slice-aggregate-move-down
     cast-move-down

@@ -6,4 +6,5 @@ pub mod LookLaws
 pub mod RowLaws
 pub mod RunLaws
 pub mod SettledLook
+pub mod StoredLook
 pub mod TakenLaws

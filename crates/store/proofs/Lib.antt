@@ -1,4 +1,5 @@
 -- Laws that the proofs of the functions cite.
+pub mod AcceptedLook
 pub mod CoreLaws
 pub mod DownLaws
 pub mod KeepingLook

@@ -40,6 +40,14 @@ use Rattle.store.proofs.TakenLaws.{free-look, free-apart}
 abbrev holding : ℕ → ℕ → List ℕ → List ℕ → Place
 holding q seq ack text = record { slot = slotOf q; src = senderOf q; seq = seq; ack = ack; text = text }
 
+-- what the sender expects next of this unit
+pub own-ack : (c : Core) (m : Accepting) (text : List ℕ) (p : Message) → Says c m text p → 1 ≤ c .me → c .me ≤ c .n → at (p .ack) (c .me) ≡ at (m .ack) (c .me)
+own-ack c m text p S low high =
+    ap (λ (l : List ℕ). at l (c .me)) (S .ack)
+    ∙ at-part (m .ack) 0 (c .n) (c .me) low high
+    ∙ ap (λ (i : ℕ). getD (m .ack) i 0) (let e : 0 + (c .me - 1) ≡ c .me - 1 = omega arith in e)
+    ∙ at-before (m .ack) (c .me) (λ e. omega arith)
+
 module _ (c : Core) (acks bytes frames : List ℕ) (m : Accepting) (text : List ℕ) (p : Message)
     (Z : Sized c acks bytes) (F : Fits c) (G : Goes c m) (S : Says c m text p) where
   abbrev s : State
@@ -96,14 +104,7 @@ module _ (c : Core) (acks bytes frames : List ℕ) (m : Accepting) (text : List 
 
   low-rises : lowest c ≤ low
   unfolding minAL look stored
-  low-rises = minAL-rises s p (omega (arith, F .me-low, F .me-high)) (omega (arith, lowest-is c (F .me-low) (F .me-high), G .low, own-ack))
-    where
-      own-ack : at (p .ack) (c .me) ≡ at (m .ack) (c .me)
-      own-ack =
-          ap (λ (l : List ℕ). at l (c .me)) (S .ack)
-          ∙ at-part (m .ack) 0 (c .n) (c .me) (F .me-low) (F .me-high)
-          ∙ ap (λ (i : ℕ). getD (m .ack) i 0) (let e : 0 + (c .me - 1) ≡ c .me - 1 = omega arith in e)
-          ∙ at-before (m .ack) (c .me) (λ e. omega (arith, F .me-low))
+  low-rises = minAL-rises s p (omega (arith, F .me-low, F .me-high)) (omega (arith, lowest-is c (F .me-low) (F .me-high), G .low, own-ack c m text p S (F .me-low) (F .me-high)))
 
   -- the frames that are gone are those below it
   gone-is : storedOf c m .gone + lowest c ≡ low

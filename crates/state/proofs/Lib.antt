@@ -1,3 +1,6 @@
--- Laws of a unit's numbers.
+-- Laws that the proofs of the functions cite, and what the functions mean in the rules.
+pub mod EveryLaws
+pub mod LookLaws
 pub mod MarkLaws
 pub mod PlaceLaws
+pub mod SoundLaws

@@ -3,4 +3,5 @@ pub mod EveryLaws
 pub mod LookLaws
 pub mod MarkLaws
 pub mod PlaceLaws
+pub mod RoomLaws
 pub mod SoundLaws

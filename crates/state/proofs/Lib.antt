@@ -2,6 +2,7 @@
 pub mod EveryLaws
 pub mod LookLaws
 pub mod MarkLaws
+pub mod OpeningLaws
 pub mod PlaceLaws
 pub mod RoomLaws
 pub mod SoundLaws

@@ -24,22 +24,25 @@ acceptedLook c acks bytes frames m text =
     let said : List ℕ = withAck acks (m .place) (m .ack) in
     look (settledOf (storedOf c m .core) said) said (withText bytes (m .place) text) (withoutFrames frames (storedOf c m .gone))
 
-module _ (c : Core) (acks bytes frames : List ℕ) (m : Accepting) (text : List ℕ) (p : Message) where
-  pub accepted-look : Sized c acks bytes → Fits c → Goes c m → Says c m text p → acceptedLook c acks bytes frames m text ≡ accepted (look c acks bytes frames) p
-  unfolding accepted storedOf columnStored numbersStored placeStored look
-  accepted-look Z F G S =
-      settled-look (storedOf c m .core) (withAck acks (m .place) (m .ack)) (withText bytes (m .place) text) (withoutFrames frames (storedOf c m .gone)) (F .most)
-      (withLast-whole (c .order) (m .place) (Z .list) (G .room) (c .n) (G .sender) (F .whole))
-      ∙ ap (λ (t : State). confirm (preackTo (c .n) t)) (stored-look c acks bytes frames m text p Z F G S)
+pub accepted-look : (c : Core) (acks bytes frames : List ℕ) (m : Accepting) (text : List ℕ) (p : Message)
+    → Sized c acks bytes → Fits c → Goes c m → Says c m text p → acceptedLook c acks bytes frames m text ≡ accepted (look c acks bytes frames) p
+unfolding accepted storedOf columnStored numbersStored placeStored look
+accepted-look c acks bytes frames m text p Z F G S =
+    settled-look (storedOf c m .core) (withAck acks (m .place) (m .ack)) (withText bytes (m .place) text) (withoutFrames frames (storedOf c m .gone)) (F .most)
+    (withLast-whole (c .order) (m .place) (Z .list) (G .room) (c .n) (G .sender) (F .whole))
+    ∙ ap (λ (t : State). confirm (preackTo (c .n) t)) (stored-look c acks bytes frames m text p Z F G S)
 
-  abbrev pub framed : List ℕ
-  framed = encode (message p)
+-- the frame of p, and the numbers once it is kept
+abbrev pub framed : Message → List ℕ
+framed p = encode (message p)
 
-  abbrev pub keeps : Core
-  keeps = keepingOf c (length framed)
+abbrev pub kept : Core → Message → Core
+kept c p = keepingOf c (length (framed p))
 
-  pub sent-look : Keeps c frames → length framed ≤ 117 → Sized keeps acks bytes → Fits keeps → Goes keeps m → Says keeps m text p
-      → acceptedLook keeps acks bytes (withFrame frames (keptSlot c) framed) m text ≡ sent (look c acks bytes frames) p
-  unfolding sent
-  sent-look K short Z F G S =
-      ?
+pub sent-look : (c : Core) (acks bytes frames : List ℕ) (m : Accepting) (text : List ℕ) (p : Message)
+    → Keeps c frames → length (framed p) ≤ 117 → Sized (kept c p) acks bytes → Fits (kept c p) → Goes (kept c p) m → Says (kept c p) m text p
+    → acceptedLook (kept c p) acks bytes (withFrame frames (keptSlot c) (framed p)) m text ≡ sent (look c acks bytes frames) p
+unfolding sent
+sent-look c acks bytes frames m text p K short Z F G S =
+    accepted-look (kept c p) acks bytes (withFrame frames (keptSlot c) (framed p)) m text p Z F G S
+    ∙ ap (λ (t : State). accepted t p) (keeping-look c acks bytes frames p K short)

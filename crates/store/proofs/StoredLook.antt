@@ -31,7 +31,7 @@ use Rattle.store.specs.Arrays.{down, withAck, withText, withoutFrames}
 use Rattle.store.specs.Store.{after, columnStored, numbersStored, placeStored, storedOf}
 use Rattle.store.specs.Fits.{Sized, Fits, Says, Goes}
 use Rattle.store.proofs.DownLaws.{getD-down, part-down}
-use Rattle.store.proofs.LookLaws.{lowest-is, shows-look}
+use Rattle.state.proofs.LookLaws.{lowest-is, shows-look}
 use Rattle.store.proofs.RowLaws.{units-set}
 use Rattle.store.proofs.RunLaws.{part-apart, part-stored}
 use Rattle.store.proofs.TakenLaws.{free-look, free-apart}

@@ -22,7 +22,7 @@ use Rattle.state.specs.Soundness.{ownLow}
 use Rattle.store.specs.Arrays.{withFrame}
 use Rattle.store.specs.Store.{after, keptSlot, keepingOf}
 use Rattle.store.specs.Fits.{Keeps}
-use Rattle.store.proofs.LookLaws.{lowest-is}
+use Rattle.state.proofs.LookLaws.{lowest-is}
 use Rattle.store.proofs.RunLaws.{part-apart, part-stored}
 
 module _ (c : Core) (frames f : List ℕ) (K : Keeps c frames) (short : length f ≤ 117) where

@@ -16,7 +16,7 @@ use Rattle.lists.specs.View.{Whole}
 use Rattle.lists.proofs.TakenLaws.{taken-shows, freeOf-is}
 use Rattle.state.specs.declared.Core.{Core}
 use Rattle.state.specs.View.{placeAt, look}
-use Rattle.store.proofs.LookLaws.{holds-look, shows-look}
+use Rattle.state.proofs.LookLaws.{holds-look, shows-look}
 
 mem-listed : (M : ℕ → Place) (a m : ℕ) (f : ℕ → ℕ) (i : ℕ) → i < m → List·Memᴰ (M (f (a + i))) (map M (listed a m f))
 mem-listed M a zero f i h = absurd (omega arith)

@@ -7,6 +7,7 @@ use lib.Dec.{eqb}
 use lib.ListN.{set, replicate}
 use Rattle.rules.specs.Maps.{among}
 use Rattle.rules.specs.Message.{Said}
+use Rattle.rules.specs.Calls.{decide}
 use Rattle.tables.specs.Rows.{raised}
 use Rattle.lists.specs.Order.{freeOf}
 use Rattle.state.specs.declared.Core.{Core}
@@ -17,7 +18,7 @@ use Rattle.store.specs.declared.Accepting.{Accepting}
 use Rattle.store.specs.declared.Next.{Next}
 use Rattle.store.specs.Store.{storedOf}
 use Rattle.steps.specs.declared.Arrival.{Arrival}
-use Rattle.steps.specs.Checks.{answerOf, dataChecks, requestChecks, resendFrom}
+use Rattle.steps.specs.Checks.{answerOf, groupChecks, unitChecks, requestChecks, resendFrom}
 
 -- an arrival with this answer that stores nothing
 abbrev pub passing : ℕ → ℕ → ℕ → Core → Arrival
@@ -78,11 +79,14 @@ storing c f =
       core = s .core;
     }
 
--- 9, 10 and 12 note the missing numbers
-unfoldable pub dataArrival : Core → Frame → Arrival
-dataArrival c f =
-    let a : ℕ = answerOf (dataChecks c f) in
+-- from a unit of the group: 9, 10 and 12 note the missing numbers
+unfoldable pub unitArrival : Core → Frame → Arrival
+unitArrival c f =
+    let a : ℕ = answerOf (unitChecks c f) in
     cond (eqb a 0) (storing c f) (passing a 0 0 (cond (among a (9 ∷ 10 ∷ 12 ∷ [])) (notedOf c f) c))
+
+unfoldable pub dataArrival : Core → Frame → Arrival
+dataArrival c f = decide (groupChecks c f) (λ a. passing a 0 0 c) (unitArrival c f)
 
 unfoldable pub requestArrival : Core → Frame → Arrival
 requestArrival c f =

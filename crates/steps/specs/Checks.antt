@@ -44,7 +44,7 @@ impossible c f =
 unfoldable pub noPlace : Core → ℕ → Bool
 noPlace c j = leb (4 * c .w) (length (only (isOf j) (takens (c .order))))
 
--- what its sender j knew: against what this unit has, and against what j said before
+-- a frame of this group, from a unit: whether it is its own, what it says, and whether it is its sender's turn
 abbrev pub turnChecks : Core → Frame → List Check
 turnChecks c f =
     (ltb (f .seq) (at (c .req) (f .src)) ⇒ 8)
@@ -54,13 +54,12 @@ turnChecks c f =
     ∷ (noPlace c (f .src) ⇒ 12)
     ∷ []
 
-abbrev pub dataChecks : Core → Frame → List Check
-dataChecks c f =
-    (not (eqb (f .cid) (c .cid)) ⇒ 4)
-    ∷ (not (ofGroup c f) ⇒ 5)
-    ∷ (eqb (f .src) (c .me) ⇒ 6)
-    ∷ (impossible c f ⇒ 7)
-    ∷ turnChecks c f
+abbrev pub unitChecks : Core → Frame → List Check
+unitChecks c f = (eqb (f .src) (c .me) ⇒ 6) ∷ (impossible c f ⇒ 7) ∷ turnChecks c f
+
+-- what comes before
+abbrev pub groupChecks : Core → Frame → List Check
+groupChecks c f = (not (eqb (f .cid) (c .cid)) ⇒ 4) ∷ (not (ofGroup c f) ⇒ 5) ∷ []
 
 -- ---- requests
 

@@ -8,7 +8,7 @@ use Rattle.state.specs.declared.Core.{Core}
 use Rattle.state.specs.Soundness.{soundOf}
 use Rattle.store.specs.declared.Accepting.{Accepting}
 use Rattle.store.specs.declared.Next.{Next}
-use Rattle.store.specs.Store.{slotOf, keepingOf, storedOf}
+use Rattle.store.specs.Store.{keptSlot, keepingOf, storedOf}
 use Rattle.steps.specs.declared.Sending.{Sending}
 use Rattle.steps.specs.Checks.{answerOf, sendChecks}
 use Rattle.steps.specs.Arrival.{freePlace}
@@ -34,7 +34,7 @@ sendingOwn c len =
     record {
       answer = 0;
       buf = freePlaces c;
-      slot = slotOf c;
+      slot = keptSlot c;
       place = freePlace c (c .me);
       gone = s .gone;
       core = s .core;

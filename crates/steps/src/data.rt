@@ -9,8 +9,9 @@ use store;
 use store::Accepting;
 use tables;
 ghost use mathlib.Core.Path.{_≡_};
-ghost use Rattle.steps.specs.Arrival.{notedOf, storing, dataArrival};
-ghost use Rattle.steps.specs.Checks.{Ranged, FromUnit, answerOf, impossible, turnChecks, dataChecks};
+ghost use Prim.Native.Nat.{_<_};
+ghost use Rattle.steps.specs.Arrival.{notedOf, storing, unitArrival, dataArrival};
+ghost use Rattle.steps.specs.Checks.{Ranged, FromUnit, answerOf, impossible, turnChecks, unitChecks};
 
 // Whether f says what no unit of the group can have said.
 fn cannot_be(c: Core, f: Frame) -> bool
@@ -54,15 +55,9 @@ fn turn(c: Core, f: Frame) -> u32
 }
 
 fn answer(c: Core, f: Frame) -> u32
-    requires { ⌜ Ranged c ⌝ }
-    ensures { λ r. ⌜ r ≡ answerOf (dataChecks c f) ⌝ }
+    requires { ⌜ Ranged c × FromUnit c f ⌝ }
+    ensures { λ r. ⌜ r ≡ answerOf (unitChecks c f) ⌝ }
 {
-    if f.cid != c.cid {
-        return 4;
-    }
-    if !of_group(c, f) {
-        return 5;
-    }
     if f.src == c.me as u32 {
         return 6;
     }
@@ -101,6 +96,7 @@ fn stored(c: Core, f: Frame) -> Arrival
         len: f.len as u8,
     };
     let s = store::stored(c, m);
+    let core = s.core;
     Arrival {
         answer: 0,
         first: 0,
@@ -109,13 +105,14 @@ fn stored(c: Core, f: Frame) -> Arrival
         place,
         gone: s.gone,
         ack,
-        core: s.core,
+        core,
     }
 }
 
-pub fn arrived(c: Core, f: Frame) -> Arrival
-    requires { ⌜ Ranged c × (f .len < 256) ⌝ }
-    ensures { λ r. ⌜ r ≡ dataArrival c f ⌝ }
+// The data come from a unit of the group.
+fn from_unit(c: Core, f: Frame) -> Arrival
+    requires { ⌜ (Ranged c × FromUnit c f) × (f .len < 256) ⌝ }
+    ensures { λ r. ⌜ r ≡ unitArrival c f ⌝ }
 {
     let a = answer(c, f);
     if a == 0 {
@@ -125,4 +122,17 @@ pub fn arrived(c: Core, f: Frame) -> Arrival
         return passed(a, 0, 0, noted(c, f));
     }
     passed(a, 0, 0, c)
+}
+
+pub fn arrived(c: Core, f: Frame) -> Arrival
+    requires { ⌜ Ranged c × (f .len < 256) ⌝ }
+    ensures { λ r. ⌜ r ≡ dataArrival c f ⌝ }
+{
+    if f.cid != c.cid {
+        return passed(4, 0, 0, c);
+    }
+    if !of_group(c, f) {
+        return passed(5, 0, 0, c);
+    }
+    from_unit(c, f)
 }

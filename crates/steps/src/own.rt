@@ -76,13 +76,14 @@ fn kept(c: Core, len: usize) -> Sending
         len: len as u8,
     };
     let s = store::stored(next, m);
+    let core = s.core;
     Sending {
         answer: 0,
         buf,
-        slot: store::slot(c),
+        slot: store::kept_slot(c),
         place,
         gone: s.gone,
-        core: s.core,
+        core,
     }
 }
 

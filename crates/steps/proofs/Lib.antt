@@ -1,0 +1,2 @@
+-- Laws that the proofs of the functions cite, and what an arrival and a send mean in the rules.
+pub mod RangeLaws

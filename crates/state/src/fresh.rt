@@ -1,7 +1,7 @@
 // The numbers of a fresh unit.
-use crate::soundness;
 use crate::Core;
 use crate::Opening;
+use crate::soundness;
 use lists::Order;
 use tables;
 ghost use mathlib.Core.Bool.{_&&_};

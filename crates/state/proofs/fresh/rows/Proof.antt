@@ -38,9 +38,9 @@ loop-again c =
     let j = q .loop .j in (
       search needs,
       c .with-column .ensures
-      ∙ ap (λ (t : List ℕ). withColumn t (j + 1) v) (q .loop .inv .1)
-      ∙ ap (λ (i : ℕ). withColumn (rowsOf j v) i v) (add-one j)
-      ∙ ap (λ (i : ℕ). rowsOf i v) (sym (add-one j)),
+          ∙ ap (λ (t : List ℕ). withColumn t (j + 1) v) (q .loop .inv .1)
+          ∙ ap (λ (i : ℕ). withColumn (rowsOf j v) i v) (add-one j)
+          ∙ ap (λ (i : ℕ). rowsOf i v) (sym (add-one j)),
     )
 
 returns : tie.Need-returns Inv-loop μ-loop

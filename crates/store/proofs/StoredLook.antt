@@ -1,9 +1,9 @@
 -- Storing a message in the numbers and arrays is accepting it in the state that they show.
 use mathlib.Core.Bool.{Bool, cond}
-use mathlib.Core.List.{List, [], _∷_, _++_, map}
+use mathlib.Core.List.{List, [], _∷_, _++_}
 use mathlib.Core.Logic.{_≢_}
-use mathlib.Core.Path.{_≡_, refl, sym, ap, subst, _∙_, fun-ext}
-use Prim.Native.Nat.{ℕ, suc, _+_, _-_, _*_, _≤_, _<_, max}
+use mathlib.Core.Path.{_≡_, sym, ap, _∙_, fun-ext}
+use Prim.Native.Nat.{ℕ, suc, _+_, _-_, _*_, _≤_, max}
 use native.Mathlib.Omega.{arith}
 use lib.Dec.{leb, ltb}
 use lib.ListN.{length, getD, set, take, length-take}
@@ -18,7 +18,7 @@ use Rattle.rules.proofs.KeepsSound.{minAL-rises}
 use Rattle.tables.specs.Rows.{part, grid, withColumn}
 use Rattle.tables.proofs.GridLaws.{at-part, grid-column}
 use Rattle.tables.proofs.RowLaws.{at-before}
-use Rattle.lists.specs.Order.{senderOf, slotOf, total, entry, waitings, ordereds, confirmeds, withLast}
+use Rattle.lists.specs.Order.{senderOf, slotOf, entry, withLast}
 use Rattle.lists.specs.View.{Shows}
 use Rattle.lists.proofs.ChangeLaws.{withLast-shows}
 use Rattle.lists.proofs.EntryLaws.{listed-all}

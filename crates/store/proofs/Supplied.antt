@@ -1,13 +1,13 @@
 -- What storing and keeping ask, a unit supplies that can store or send by the rules.
-use mathlib.Core.List.{List, map}
-use mathlib.Core.Path.{_≡_, refl, sym, ap, subst, _∙_}
-use Prim.Native.Nat.{ℕ, _+_, _-_, _*_, _≤_, _<_}
+use mathlib.Core.List.{List}
+use mathlib.Core.Path.{_≡_, ap}
+use Prim.Native.Nat.{ℕ, _+_, _-_, _*_, _<_}
 use native.Mathlib.Omega.{arith}
 use native.Mathlib.Nat.{mul-le-mul}
 use lib.ListN.{length, getD}
 use Rattle.rules.specs.Message.{Message}
-use Rattle.rules.specs.State.{Place, State, minAL, taken}
-use Rattle.rules.specs.Steps.{placed, stored}
+use Rattle.rules.specs.State.{State, minAL, taken}
+use Rattle.rules.specs.Steps.{stored}
 use Rattle.rules.proofs.MapsLaws.{length-listed}
 use Rattle.rules.proofs.KeepsSound.{Storable, stored-sound}
 use Rattle.rules.proofs.PlacesLaws.{tally-stored}
@@ -15,10 +15,9 @@ use Rattle.rules.proofs.SendLaws.{Sends}
 use Rattle.rules.proofs.SlotsLaws.{length-tally, freeSlot-lt, taken-most}
 use Rattle.rules.proofs.SoundLaws.{Held}
 use Rattle.lists.specs.Order.{senderOf, total, entry}
-use Rattle.lists.specs.View.{Whole}
 use Rattle.lists.proofs.TakenLaws.{taken-length}
 use Rattle.state.specs.declared.Core.{Core}
-use Rattle.state.specs.View.{placeAt, lowest, keptOf, look}
+use Rattle.state.specs.View.{placeAt, lowest, look}
 use Rattle.state.specs.Soundness.{ownLow}
 use Rattle.state.proofs.LookLaws.{shows-look, lowest-is, kept-length}
 use Rattle.store.specs.declared.Accepting.{Accepting}

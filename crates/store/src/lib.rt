@@ -128,9 +128,7 @@ pub fn settled(c: Core, acks: &[u32]) -> Core
     ensures { λ r. ⌜ r ≡ settledOf c (now (acks .entry)) ⌝ }
 {
     let order = c.order;
-    let al = c.al;
-    let seqs = c.seqs;
-    let o = lists::settled(order, &al, &seqs, acks, c.n);
+    let o = lists::settled(order, &c.al, &c.seqs, acks, c.n);
     let mut d = c;
     d.order = o;
     d

@@ -2,7 +2,7 @@
 use mathlib.Core.Path.{sym}
 use native.Mathlib.Omega.{arith}
 use lib.Seq.{length-take-le, take-all}
-use borrow.Author.Needs.{needs, counted-is}
+use borrow.Author.Needs.{needs}
 use Rattle.store.proofs.arrays.front.Statement.{statement}
 use Rattle.store.proofs.arrays.front.Tie as tie
 

@@ -1,11 +1,10 @@
 -- What does not fit is not written.
 use native.Mathlib.Omega.{arith}
 use mathlib.Core.Path.{ap, _∙_}
-use mathlib.Core.List.{List}
-use Prim.Native.Nat.{ℕ, _*_}
-use lib.ListN.{length, length-take}
+use Prim.Native.Nat.{_*_}
+use lib.ListN.{length-take}
 use lib.Seq.{sets}
-use Rattle.store.specs.Arrays.{withAck, withText, withFrame}
+use Rattle.store.specs.Arrays.{withFrame}
 use borrow.Author.Needs.{needs}
 use Rattle.store.proofs.arrays.put_frame.Statement.{statement}
 use Rattle.store.proofs.arrays.put_frame.Tie as tie
@@ -17,8 +16,7 @@ front-requires : tie.Need-front-requires
 front-requires c κs = search needs
 
 put-bytes-requires : tie.Need-put-bytes-requires
-put-bytes-requires c κs =
-    omega (arith, ap length (c .front .ensures), length-take 117 (c .before .before .before .args .frame .now))
+put-bytes-requires c κs = rw (c .front .ensures) (simp length-take (omega arith))
 
 returns : tie.Need-returns
 unfolding withFrame

@@ -45,7 +45,22 @@ coreOf o =
 
 -- the closed unit: all numbers 0
 abbrev pub closedCore : Core
-closedCore = coreOf (record { me = 0; n = 0; w = 0; cid = 0; first = replicate 8 0 })
+closedCore =
+    record {
+      me = 0;
+      n = 0;
+      w = 0;
+      cid = 0;
+      seq = 0;
+      req = replicate 8 0;
+      heard = replicate 8 0;
+      buf = replicate 8 0;
+      al = replicate 64 0;
+      kept = replicate 4 0;
+      seqs = replicate 128 0;
+      lens = replicate 128 0;
+      order = record { pal = replicate 64 0; list = replicate 128 0; confirmed = 0; ordered = 0; waiting = 0 };
+    }
 
 unfoldable pub openedOf : Opening → Opened
 openedOf o =

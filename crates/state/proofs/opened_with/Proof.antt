@@ -1,10 +1,10 @@
 -- `opened_with` meets its contract.
-use mathlib.Core.Path.{ap}
+use mathlib.Core.Path.{ap, _∙_}
 use borrow.Author.Needs.{needs}
 use Rattle.rules.specs.Calls.{openChecks}
 use Rattle.state.specs.declared.Core.{Core}
-use Rattle.state.specs.declared.Opened.{Opened}
 use Rattle.state.specs.Opening.{openedOf}
+use Rattle.state.proofs.OpeningLaws.{closed-fresh}
 use Rattle.state.proofs.opened_with.Statement.{statement}
 use Rattle.state.proofs.opened_with.Tie as tie
 
@@ -25,7 +25,7 @@ unit-requires-2 c κs = search needs
 returns-2 : tie.Need-returns-2
 unfolding openedOf openChecks
 returns-2 c =
-    rw (← c .before .before .can-open .ensures, c .before .if1 .left) (ap (λ (u : Core). record { answer = 2; core = u }) (c .unit2 .ensures))
+    rw (← c .before .before .can-open .ensures, c .before .if1 .left) (ap (λ (u : Core). record { answer = 2; core = u }) (c .unit2 .ensures ∙ closed-fresh))
 
 pub opened-with-spec : {M : Type 1} → statement M
 opened-with-spec =

@@ -1,2 +1,3 @@
 -- What a unit's numbers and arrays show of the rules, and what the functions on them give.
+pub mod Soundness
 pub mod View

@@ -1,5 +1,10 @@
 // What a unit holds in numbers: everything but ACK and data of its places, and the kept frames, which are lent.
+mod soundness;
+
 use lists::Order;
+use tables;
+ghost use mathlib.Core.Path.{_≡_};
+ghost use Rattle.state.specs.Soundness.{ownLow, soundOf};
 
 // The kept frame of number s is in slot s - minAL of the own index, and `kept` holds its length. `seqs` and `lens`
 // hold number and data length of the message at each place.
@@ -17,4 +22,35 @@ pub struct Core {
     pub seqs: [u32; 128],
     pub lens: [u8; 128],
     pub order: Order,
+}
+
+// minAL of the own index.
+pub fn own_low(c: Core) -> u32
+    ensures { λ r. ⌜ r ≡ ownLow c ⌝ }
+{
+    tables::least_of(tables::row(&c.al, c.me), c.n)
+}
+
+// Whether the unit is sound.
+pub fn sound(c: Core, acks: &[u32]) -> bool
+    ensures { λ r. ⌜ r ≡ soundOf c (now (acks .entry)) ⌝ }
+{
+    if !soundness::ranges_fit(c.me, c.n, c.w) {
+        return false;
+    }
+    if !soundness::nexts_fit(c) {
+        return false;
+    }
+    if tables::at(&c.req, c.me) != c.seq {
+        return false;
+    }
+    let low = own_low(c);
+    if !soundness::window_fits(low, c.w, c.seq) {
+        return false;
+    }
+    let kept = c.kept;
+    if !soundness::kept_fit(kept, c.n, c.seq - low) {
+        return false;
+    }
+    soundness::places_fit(c, acks)
 }

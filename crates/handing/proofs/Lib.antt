@@ -1,0 +1,3 @@
+-- Laws that the proofs of the functions cite, and what the functions mean in the rules.
+pub mod Answers
+pub mod PartLaws

@@ -26,14 +26,18 @@ ownLow c = least (c .n) (at (rowOf (c .al) (c .me)))
 
 -- the first m kept frames, of numbers from minAL on, are 37 + 4n to 85 + 4n bytes long
 unfoldable pub keptLengths : List ℕ → ℕ → ℕ → Bool
-keptLengths kept n m = every 0 m (λ i. between (37 + 4 * n) (85 + 4 * n) (getD kept i 0))
+keptLengths kept n m = every 1 m (λ k. between (37 + 4 * n) (85 + 4 * n) (at kept k))
+
+-- minAL ≤ SEQ ≤ minAL + W for the own index, and a frame is kept for each number from minAL up to SEQ - 1
+unfoldable pub windowOf : Core → Bool
+windowOf c = between (ownLow c) (ownLow c + c .w) (c .seq) && keptLengths (c .kept) (c .n) (c .seq - ownLow c)
 
 -- place p is one of the 4W of a sender 1 to n, and the message in it keeps the frame limits
 unfoldable pub placeOf : Core → List ℕ → ℕ → Bool
 placeOf c acks p =
     leb (senderOf p) (c .n)
     && ltb (slotOf p) (4 * c .w)
-    && (ltb 0 (getD (c .seqs) p 0) && ltb (getD (c .seqs) p 0) last)
+    && between 1 (last - 1) (getD (c .seqs) p 0)
     && noneZero (c .n) (at (drop (8 * p) acks))
     && leb (getD (c .lens) p 0) 48
 
@@ -51,6 +55,5 @@ soundOf c acks =
     rangesFit (c .me) (c .n) (c .w)
     && nextsOf c
     && eqb (at (c .req) (c .me)) (c .seq)
-    && between (ownLow c) (ownLow c + c .w) (c .seq)
-    && keptLengths (c .kept) (c .n) (c .seq - ownLow c)
+    && windowOf c
     && placesOf c acks

@@ -44,12 +44,7 @@ pub fn sound(c: Core, acks: &[u32]) -> bool
     if tables::at(&c.req, c.me) != c.seq {
         return false;
     }
-    let low = own_low(c);
-    if !soundness::window_fits(low, c.w, c.seq) {
-        return false;
-    }
-    let kept = c.kept;
-    if !soundness::kept_fit(kept, c.n, c.seq - low) {
+    if !soundness::window_fits(c) {
         return false;
     }
     soundness::places_fit(c, acks)

@@ -1,0 +1,7 @@
+-- Laws that the proofs of the functions cite, and what the functions mean in the rules.
+pub mod EveryLaws
+pub mod LookLaws
+pub mod MarkLaws
+pub mod PlaceLaws
+pub mod RoomLaws
+pub mod SoundLaws

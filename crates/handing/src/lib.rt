@@ -90,14 +90,12 @@ pub fn asking(c: Core, acks: &[u32], k: u8, out: &mut [u8]) -> Handed
         return Handed { answer: 18, len: 0 };
     }
     let n = c.n as usize;
+    let len = 33 + 4 * n;
+    if out.len() < len {
+        return Handed { answer: 16, len: 0 };
+    }
     let answer = write_request(out, c.cid, c.me, &c.req, n, k, heard);
-    if answer != 0 {
-        return Handed { answer, len: 0 };
-    }
-    Handed {
-        answer: 0,
-        len: 33 + 4 * n,
-    }
+    Handed { answer, len }
 }
 
 // Copies the kept frame of number x to the front of the output.

@@ -44,29 +44,25 @@ returns-4 c = search needs
 cast-n : tie.Need-cast-n
 cast-n c = search needs
 
--- src/lib.rt:93:9
-write-request-requires : tie.Need-write-request-requires
-write-request-requires c κs = search needs
+-- src/lib.rt:93:20
+mul-len : tie.Need-mul-len
+mul-len c = search needs
 
--- src/lib.rt:95:9
-same-length : tie.Need-same-length
-same-length c = search needs
+-- src/lib.rt:93:15
+add-len : tie.Need-add-len
+add-len c = search needs
 
 -- src/lib.rt:95:9
 returns-5 : tie.Need-returns-5
 returns-5 c = search needs
 
--- src/lib.rt:99:19
-mul-t21 : tie.Need-mul-t21
-mul-t21 c = search needs
-
--- src/lib.rt:99:14
-add-t22 : tie.Need-add-t22
-add-t22 c = search needs
+-- src/lib.rt:97:9
+write-request-requires : tie.Need-write-request-requires
+write-request-requires c κs = search needs
 
 -- src/lib.rt:76:1
-same-length-2 : tie.Need-same-length-2
-same-length-2 c = search needs
+same-length : tie.Need-same-length
+same-length c = search needs
 
 -- src/lib.rt:76:1
 returns-6 : tie.Need-returns-6
@@ -85,10 +81,9 @@ asking-spec =
     at-requires-2
     returns-4
     cast-n
+    mul-len
+    add-len
+    returns-5
     write-request-requires
     same-length
-    returns-5
-    mul-t21
-    add-t22
-    same-length-2
     returns-6)

@@ -2,7 +2,7 @@
 use mathlib.Core.Bool.{Bool, true, false}
 use mathlib.Core.List.{List, []}
 use mathlib.Core.Logic.{_≢_}
-use mathlib.Core.Path.{_≡_, refl, ap}
+use mathlib.Core.Path.{_≡_, refl}
 use Prim.Native.Nat.{ℕ, _+_, _-_, _*_, _≤_, _<_}
 use lib.ListN.{length, getD, take}
 use borrow.Author.Tests.{eq-eqb, ne-eqb, le-leb, lt-leb, lt-ltb, le-ltb}
@@ -19,8 +19,7 @@ use Rattle.state.specs.declared.Core.{Core}
 use Rattle.state.specs.Soundness.{ownLow, soundOf}
 use Rattle.state.specs.View.{look}
 use Rattle.state.proofs.RoomLaws.{sound-shown}
-use Rattle.handing.specs.declared.Taken.{Taken}
-use Rattle.handing.specs.Handing.{Given, Gives, oldestPlace, lengthAt, withOrder, notTaken, takenAt, takingOf, handed, notHanded, requestFor, askingOf, slotFor, lengthFor, copyingOf}
+use Rattle.handing.specs.Handing.{Given, Gives, oldestPlace, lengthAt, withOrder, notTaken, takingOf, handed, notHanded, requestFor, askingOf, slotFor, copyingOf}
 
 module _ {A : Type 0} where
   gives : (g : Given A) (r : A) (after : List ℕ) → g ≡ record { result = r; output = after } → Gives g r after
@@ -43,15 +42,18 @@ module _ (c : Core) (acks bytes out : List ℕ) where
     unfolding takingOf
     taking-18 e = gives _ _ _ (rw (s, eq-eqb (c .order .confirmed) 0 e))
 
-    module _ (e : c .order .confirmed ≢ 0) (p : ℕ) (z : p ≡ oldestPlace c) where
-      pub taking-16 : length out < lengthAt c p → Gives (takingOf c acks bytes out) (notTaken c 16) out
+    -- place p, with m bytes of data
+    module _ (e : c .order .confirmed ≢ 0) (p : ℕ) (z : p ≡ oldestPlace c) (m : ℕ) (y : m ≡ lengthAt c p) where
+      pub taking-16 : length out < m → Gives (takingOf c acks bytes out) (notTaken c 16) out
       unfolding takingOf
-      taking-16 h = gives _ _ _ (rw (s, ne-eqb (c .order .confirmed) 0 e, ← z, lt-ltb (length out) (lengthAt c p) h))
+      taking-16 h = gives _ _ _ (rw (s, ne-eqb (c .order .confirmed) 0 e, ← z, ← y, lt-ltb (length out) m h))
 
-      pub taking-0 : lengthAt c p ≤ length out → (after : List ℕ) → after ≡ written out (part bytes (48 * p) (lengthAt c p))
-          → Gives (takingOf c acks bytes out) (takenAt c p) after
+      pub taking-0 : m ≤ length out → (seq : ℕ) → seq ≡ getD (c .seqs) p 0 → (rest : Order) → rest ≡ withoutFirst (c .order)
+          → (after : List ℕ) → after ≡ written out (part bytes (48 * p) m)
+          → Gives (takingOf c acks bytes out) (record { answer = 0; src = senderOf p; seq = seq; len = m; core = withOrder c rest }) after
       unfolding takingOf
-      taking-0 h after w = gives _ _ _ (rw (s, ne-eqb (c .order .confirmed) 0 e, ← z, le-ltb (length out) (lengthAt c p) h, w))
+      taking-0 h seq x rest o after w =
+          gives _ _ _ (rw (s, ne-eqb (c .order .confirmed) 0 e, ← z, ← y, le-ltb (length out) m h, ← x, ← o, w))
 
 -- ---- asking
 
@@ -108,12 +110,13 @@ module _ (c : Core) (acks frames : List ℕ) (x : ℕ) (out : List ℕ) where
       unfolding copyingOf
       copying-after h = gives _ _ _ (rw (s, le-leb (ownLow c) x a, le-ltb x (c .seq) h))
 
-      module _ (b : x < c .seq) where
-        pub copying-16 : length out < lengthFor c x → Gives (copyingOf c acks frames x out) (notHanded 16) out
+      -- the frame in slot i, m bytes long
+      module _ (b : x < c .seq) (i : ℕ) (z : i ≡ slotFor c x) (m : ℕ) (y : m ≡ getD (c .kept) i 0) where
+        pub copying-16 : length out < m → Gives (copyingOf c acks frames x out) (notHanded 16) out
         unfolding copyingOf
-        copying-16 h = gives _ _ _ (rw (s, le-leb (ownLow c) x a, lt-ltb x (c .seq) b, lt-ltb (length out) (lengthFor c x) h))
+        copying-16 h = gives _ _ _ (rw (s, le-leb (ownLow c) x a, lt-ltb x (c .seq) b, ← z, ← y, lt-ltb (length out) m h))
 
-        pub copying-0 : lengthFor c x ≤ length out → (after : List ℕ) → after ≡ written out (part frames (117 * slotFor c x) (lengthFor c x))
-            → Gives (copyingOf c acks frames x out) (handed 0 (lengthFor c x)) after
+        pub copying-0 : m ≤ length out → (after : List ℕ) → after ≡ written out (part frames (117 * i) m)
+            → Gives (copyingOf c acks frames x out) (handed 0 m) after
         unfolding copyingOf
-        copying-0 h after w = gives _ _ _ (rw (s, le-leb (ownLow c) x a, lt-ltb x (c .seq) b, le-ltb (length out) (lengthFor c x) h, w))
+        copying-0 h after w = gives _ _ _ (rw (s, le-leb (ownLow c) x a, lt-ltb x (c .seq) b, ← z, ← y, le-ltb (length out) m h, w))

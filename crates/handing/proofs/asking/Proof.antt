@@ -1,72 +1,74 @@
+-- TODO
 use borrow.Author.Needs.{needs}
+use mathlib.Core.Bool.{true}
+use mathlib.Core.Path.{_≡_, sym, _∙_}
+use Prim.Native.Nat.{_<_}
+use native.Mathlib.Omega.{arith}
+use borrow.Author.Tests.{not-true, not-false}
+use Rattle.rules.specs.Maps.{between, at}
+use Rattle.state.specs.Soundness.{soundOf}
+use Rattle.handing.proofs.Answers.{asking-1, asking-nobody, asking-oneself, asking-18, asking-16, asking-0}
+use Rattle.handing.proofs.Answers.{asking-1, asking-nobody, asking-oneself, asking-18, asking-16, asking-0}
+use Rattle.handing.proofs.Answers.{asking-1, asking-nobody, asking-oneself, asking-18, asking-16, asking-0}
 use Rattle.handing.proofs.asking.Statement.{statement}
 use Rattle.handing.proofs.asking.Tie as tie
-use Rattle.handing.proofs.asking.Reads as reads
-use Rattle.handing.proofs.asking.Lts as lts
-use Rattle.framewrite.proofs.write_request.Reads as write-request-reads
-use Rattle.handing.proofs.looks.is_unit.Reads as is-unit-reads
-use Rattle.state.proofs.sound.Reads as sound-reads
-use Rattle.tables.proofs.at.Reads as at-reads
 
--- src/lib.rt:79:9
+is-sound : (c : tie.Else1) → let a = c .before .before .before .before .args in soundOf (a .t1) (a .acks .now) ≡ true
+is-sound c = sym (c .before .sound .ensures) ∙ not-false _ (c .if1 .left)
+
+known : (c : tie.Else2) → let a = c .before .before .before .before .before .before .args in between 1 (a .t1 .n) (a .k) ≡ true
+known c = sym (c .before .is-unit .ensures) ∙ not-false _ (c .if2 .left)
+
+missing : (c : tie.Else4) → let a = c .before .before .before .before .before .before .before .before .before .before .before .before .before .before .before .before .args in at (a .t1 .req) (a .k) < at (a .t1 .heard) (a .k)
+missing c = omega arith
+
 sound-requires : tie.Need-sound-requires
 sound-requires c κs = search needs
 
--- src/lib.rt:80:9
 returns : tie.Need-returns
-returns c = search needs
+returns c = asking-1 _ _ _ _ (sym (c .before .sound .ensures) ∙ not-true _ (c .if1 .taken))
 
--- src/lib.rt:82:9
 is-unit-requires : tie.Need-is-unit-requires
 is-unit-requires c κs = search needs
 
--- src/lib.rt:83:9
 returns-2 : tie.Need-returns-2
-returns-2 c = search needs
+returns-2 c = asking-nobody _ _ _ _ (is-sound (c .before .before)) (sym (c .before .is-unit .ensures) ∙ not-true _ (c .if2 .taken))
 
--- src/lib.rt:86:9
 returns-3 : tie.Need-returns-3
-returns-3 c = search needs
+returns-3 c = asking-oneself _ _ _ _ (is-sound (c .before .before .before)) (known (c .before)) (c .if3 .taken)
 
--- src/lib.rt:88:9
 at-requires : tie.Need-at-requires
 at-requires c κs = search needs
 
--- src/lib.rt:89:17
 at-requires-2 : tie.Need-at-requires-2
 at-requires-2 c κs = search needs
 
--- src/lib.rt:90:9
 returns-4 : tie.Need-returns-4
-returns-4 c = search needs
+returns-4 c =
+    asking-18 _ _ _ _ (is-sound (c .before .before .before .before .before .before .before .before .before .before .before .before)) (known (c .before .before .before .before .before .before .before .before .before .before)) (c .before .before .before .before .before .before .before .before .before .if3 .left) (omega arith)
 
--- src/lib.rt:92:13
 cast-n : tie.Need-cast-n
 cast-n c = search needs
 
--- src/lib.rt:93:20
 mul-len : tie.Need-mul-len
 mul-len c = search needs
 
--- src/lib.rt:93:15
 add-len : tie.Need-add-len
 add-len c = search needs
 
--- src/lib.rt:95:9
 returns-5 : tie.Need-returns-5
-returns-5 c = search needs
+returns-5 c =
+    asking-16 _ _ _ _ (is-sound (c .before .before .before .before .before .before .before .before .before .before .before .before .before)) (known (c .before .before .before .before .before .before .before .before .before .before .before)) (c .before .before .before .before .before .before .before .before .before .before .if3 .left) (missing (c .before)) (c .if5 .taken)
 
--- src/lib.rt:97:9
 write-request-requires : tie.Need-write-request-requires
 write-request-requires c κs = search needs
 
--- src/lib.rt:76:1
 same-length : tie.Need-same-length
 same-length c = search needs
 
--- src/lib.rt:76:1
 returns-6 : tie.Need-returns-6
-returns-6 c = search needs
+returns-6 c =
+    asking-0 _ _ _ _ (is-sound (c .before .before .before .before .before .before .before .before .before .before .before .before .before .before .before .before .before .before .before)) (known (c .before .before .before .before .before .before .before .before .before .before .before .before .before .before .before .before .before)) (c .before .before .before .before .before .before .before .before .before .before .before .before .before .before .before .before .if3 .left) (missing (c .before .before .before .before .before .before .before)) (c .before .before .before .before .before .before .if5 .left) _ (c .before .before .before .before .before .before .before .before .before .before .before .before .at .ensures) _ _ (c .before .before .write-request .ensures)
 
 pub asking-spec : {M : Type 1} → statement M
 asking-spec =

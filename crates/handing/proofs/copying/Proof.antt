@@ -1,64 +1,59 @@
+-- TODO
 use borrow.Author.Needs.{needs}
+use mathlib.Core.Bool.{true}
+use mathlib.Core.Path.{_≡_, sym, _∙_}
+use native.Mathlib.Omega.{arith}
+use borrow.Author.Tests.{not-true, not-false}
+use Rattle.state.specs.Soundness.{soundOf}
+use Rattle.handing.proofs.Answers.{copying-1, copying-before, copying-after, copying-16, copying-0}
+use Rattle.handing.proofs.Answers.{copying-1, copying-before, copying-after, copying-16, copying-0}
+use Rattle.handing.proofs.Answers.{copying-1, copying-before, copying-after, copying-16, copying-0}
 use Rattle.handing.proofs.copying.Statement.{statement}
 use Rattle.handing.proofs.copying.Tie as tie
-use Rattle.handing.proofs.copying.Reads as reads
-use Rattle.handing.proofs.copying.Lts as lts
-use Rattle.handing.proofs.copy.put_part.Reads as put-part-reads
-use Rattle.state.proofs.own_low.Reads as own-low-reads
-use Rattle.state.proofs.sound.Reads as sound-reads
-use Rattle.tables.proofs.byte.Reads as byte-reads
 
--- src/lib.rt:107:9
+is-sound : (c : tie.Else1) → let a = c .before .before .before .before .before .args in soundOf (a .t1) (a .acks .now) ≡ true
+is-sound c = sym (c .before .sound .ensures) ∙ not-false _ (c .if1 .left)
+
 sound-requires : tie.Need-sound-requires
 sound-requires c κs = search needs
 
--- src/lib.rt:108:9
 returns : tie.Need-returns
-returns c = search needs
+returns c = copying-1 _ _ _ _ _ (sym (c .before .sound .ensures) ∙ not-true _ (c .if1 .taken))
 
--- src/lib.rt:110:9
 own-low-requires : tie.Need-own-low-requires
 own-low-requires c κs = search needs
 
--- src/lib.rt:112:9
 returns-2 : tie.Need-returns-2
-returns-2 c = search needs
+returns-2 c = copying-before _ _ _ _ _ (is-sound (c .before .before)) (omega arith)
 
--- src/lib.rt:115:9
 returns-3 : tie.Need-returns-3
-returns-3 c = search needs
+returns-3 c = copying-after _ _ _ _ _ (is-sound (c .before .before .before)) (omega arith) (c .if3 .taken)
 
--- src/lib.rt:117:16
 cast-slot : tie.Need-cast-slot
 cast-slot c = search needs
 
--- src/lib.rt:118:15
 byte-requires : tie.Need-byte-requires
 byte-requires c κs = search needs
 
--- src/lib.rt:118:15
 cast-len : tie.Need-cast-len
 cast-len c = search needs
 
--- src/lib.rt:120:9
 returns-4 : tie.Need-returns-4
-returns-4 c = search needs
+returns-4 c =
+    copying-16 _ _ _ _ _ (is-sound (c .before .before .before .before .before .before .before .before)) (omega arith) (c .before .before .before .before .before .if3 .left) _ (omega arith) _ (c .before .byte .ensures) (c .if4 .taken)
 
--- src/lib.rt:122:27
 mul-put-part : tie.Need-mul-put-part
 mul-put-part c = search needs
 
--- src/lib.rt:122:5
 put-part-requires : tie.Need-put-part-requires
 put-part-requires c κs = search needs
 
--- src/lib.rt:104:1
 same-length : tie.Need-same-length
 same-length c = search needs
 
--- src/lib.rt:104:1
 returns-5 : tie.Need-returns-5
-returns-5 c = search needs
+returns-5 c =
+    copying-0 _ _ _ _ _ (is-sound (c .before .before .before .before .before .before .before .before .before .before .before .before)) (omega arith) (c .before .before .before .before .before .before .before .before .before .if3 .left) _ (omega arith) _ (c .before .before .before .before .before .byte .ensures) (c .before .before .before .before .if4 .left) _ (c .before .before .put-part .ensures)
 
 pub copying-spec : {M : Type 1} → statement M
 copying-spec =

@@ -1,86 +1,77 @@
+-- TODO
 use borrow.Author.Needs.{needs}
+use mathlib.Core.Bool.{true}
+use mathlib.Core.Logic.{_≢_}
+use mathlib.Core.Path.{_≡_, sym, _∙_}
+use borrow.Author.Tests.{not-true, not-false}
+use Rattle.state.specs.Soundness.{soundOf}
+use Rattle.handing.proofs.Answers.{taking-1, taking-18, taking-16, taking-0}
+use Rattle.handing.proofs.Answers.{taking-1, taking-18, taking-16, taking-0}
+use Rattle.handing.proofs.Answers.{taking-1, taking-18, taking-16, taking-0}
 use Rattle.handing.proofs.taking.Statement.{statement}
 use Rattle.handing.proofs.taking.Tie as tie
-use Rattle.handing.proofs.taking.Reads as reads
-use Rattle.handing.proofs.taking.Lts as lts
-use Rattle.handing.proofs.copy.put_part.Reads as put-part-reads
-use Rattle.handing.proofs.not_taken.Reads as not-taken-reads
-use Rattle.lists.proofs.without_first.Reads as without-first-reads
-use Rattle.state.proofs.sound.Reads as sound-reads
-use Rattle.tables.proofs.byte.Reads as byte-reads
-use Rattle.tables.proofs.get.Reads as get-reads
 
--- src/lib.rt:37:9
+is-sound : (c : tie.Else1) → let a = c .before .before .before .before .before .args in soundOf (a .t1) (a .acks .now) ≡ true
+is-sound c = sym (c .before .sound .ensures) ∙ not-false _ (c .if1 .left)
+
 sound-requires : tie.Need-sound-requires
 sound-requires c κs = search needs
 
--- src/lib.rt:38:9
 not-taken-requires : tie.Need-not-taken-requires
 not-taken-requires c κs = search needs
 
--- src/lib.rt:38:9
 returns : tie.Need-returns
-returns c = search needs
+returns c =
+    rw (c .not-taken .ensures) (taking-1 _ _ _ _ (sym (c .before .before .sound .ensures) ∙ not-true _ (c .before .if1 .taken)))
 
--- src/lib.rt:42:9
 not-taken-requires-2 : tie.Need-not-taken-requires-2
 not-taken-requires-2 c κs = search needs
 
--- src/lib.rt:42:9
 returns-2 : tie.Need-returns-2
-returns-2 c = search needs
+returns-2 c =
+    rw (c .not-taken2 .ensures) (taking-18 _ _ _ _ (is-sound (c .before .before .before)) (c .before .if2 .taken))
 
--- src/lib.rt:44:9
 byte-requires : tie.Need-byte-requires
 byte-requires c κs = search needs
 
--- src/lib.rt:45:13
 cast-i : tie.Need-cast-i
 cast-i c = search needs
 
--- src/lib.rt:46:15
 byte-requires-2 : tie.Need-byte-requires-2
 byte-requires-2 c κs = search needs
 
--- src/lib.rt:46:15
 cast-len : tie.Need-cast-len
 cast-len c = search needs
 
--- src/lib.rt:48:9
 not-taken-requires-3 : tie.Need-not-taken-requires-3
 not-taken-requires-3 c κs = search needs
 
--- src/lib.rt:48:9
 returns-3 : tie.Need-returns-3
-returns-3 c = search needs
+returns-3 c =
+    rw (c .not-taken3 .ensures)
+    (taking-16 _ _ _ _ (is-sound (c .before .before .before .before .before .before .before .before .before .before .before .before)) (c .before .before .before .before .before .before .before .before .before .before .if2 .left) _ (c .before .before .before .before .before .before .byte .ensures) _ (c .before .before .byte2 .ensures) (c .before .if3 .taken))
 
--- src/lib.rt:50:26
 mul-put-part : tie.Need-mul-put-part
 mul-put-part c = search needs
 
--- src/lib.rt:50:5
 put-part-requires : tie.Need-put-part-requires
 put-part-requires c κs = search needs
 
--- src/lib.rt:51:9
 without-first-requires : tie.Need-without-first-requires
 without-first-requires c κs = search needs
 
--- src/lib.rt:56:14
 add-t28 : tie.Need-add-t28
 add-t28 c = search needs
 
--- src/lib.rt:57:14
 get-requires : tie.Need-get-requires
 get-requires c κs = search needs
 
--- src/lib.rt:34:1
 same-length : tie.Need-same-length
 same-length c = search needs
 
--- src/lib.rt:34:1
 returns-4 : tie.Need-returns-4
-returns-4 c = search needs
+returns-4 c =
+    taking-0 _ _ _ _ (is-sound (c .before .before .before .before .before .before .before .before .before .before .before .before .before .before .before .before .before .before .before .before)) (c .before .before .before .before .before .before .before .before .before .before .before .before .before .before .before .before .before .before .if2 .left) _ (c .before .before .before .before .before .before .before .before .before .before .before .before .before .before .byte .ensures) _ (c .before .before .before .before .before .before .before .before .before .before .byte2 .ensures) (c .before .before .before .before .before .before .before .before .before .if3 .left) _ (c .get .ensures) _ (c .before .before .before .before .without-first .ensures) _ (c .before .before .before .before .before .before .before .put-part .ensures)
 
 pub taking-spec : {M : Type 1} → statement M
 taking-spec =

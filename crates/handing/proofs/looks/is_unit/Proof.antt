@@ -1,16 +1,17 @@
+-- `is_unit` meets its contract.
 use borrow.Author.Needs.{needs}
+use borrow.Author.Tests.{le-leb, lt-leb}
+use Rattle.rules.specs.Maps.{between}
 use Rattle.handing.proofs.looks.is_unit.Statement.{statement}
 use Rattle.handing.proofs.looks.is_unit.Tie as tie
-use Rattle.handing.proofs.looks.is_unit.Reads as reads
-use Rattle.handing.proofs.looks.is_unit.Lts as lts
 
--- src/looks.rt:20:1
 returns : tie.Need-returns
-returns c = search needs
+unfolding between
+returns c = rw (le-leb _ _ (c .if1 .taken))
 
--- src/looks.rt:20:1
 returns-2 : tie.Need-returns-2
-returns-2 c = search needs
+unfolding between
+returns-2 c = rw (lt-leb _ _ (c .if1 .left))
 
 pub is-unit-spec : {M : Type 1} → statement M
 is-unit-spec = tie.close (tie.spec returns returns-2)

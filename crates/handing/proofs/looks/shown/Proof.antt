@@ -1,16 +1,17 @@
+-- A refusal shows nothing.
 use borrow.Author.Needs.{needs}
+use borrow.Author.Tests.{eq-eqb, ne-eqb}
+use Rattle.handing.specs.Looks.{shownWith}
 use Rattle.handing.proofs.looks.shown.Statement.{statement}
 use Rattle.handing.proofs.looks.shown.Tie as tie
-use Rattle.handing.proofs.looks.shown.Reads as reads
-use Rattle.handing.proofs.looks.shown.Lts as lts
 
--- src/looks.rt:48:9
 returns : tie.Need-returns
-returns c = search needs
+unfolding shownWith
+returns c = rw (ne-eqb (c .before .args .answer) 0 (c .if1 .taken))
 
--- src/looks.rt:44:1
 returns-2 : tie.Need-returns-2
-returns-2 c = search needs
+unfolding shownWith
+returns-2 c = rw (eq-eqb (c .before .args .answer) 0 (c .if1 .left))
 
 pub shown-spec : {M : Type 1} → statement M
 shown-spec = tie.close (tie.spec returns returns-2)

@@ -1,3 +1,4 @@
 -- Laws that the proofs of the functions cite, and what the functions mean in the rules.
 pub mod Answers
 pub mod PartLaws
+pub mod ShownLaws

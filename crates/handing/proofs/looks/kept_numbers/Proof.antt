@@ -1,40 +1,36 @@
+-- The numbers from minAL of the own index up to SEQ are shown.
 use borrow.Author.Needs.{needs}
+use mathlib.Core.Path.{_≡_, refl, sym, ap, _∙_}
+use native.Mathlib.Omega.{arith}
+use Rattle.handing.specs.Looks.{wholeChecks, keptNumbersIn}
+use Rattle.handing.proofs.ShownLaws.{look-shown}
+use Rattle.handing.proofs.ShownLaws.{look-shown}
 use Rattle.handing.proofs.looks.kept_numbers.Statement.{statement}
 use Rattle.handing.proofs.looks.kept_numbers.Tie as tie
-use Rattle.handing.proofs.looks.kept_numbers.Reads as reads
-use Rattle.handing.proofs.looks.kept_numbers.Lts as lts
-use Rattle.handing.proofs.looks.above.Reads as above-reads
-use Rattle.handing.proofs.looks.shown.Reads as shown-reads
-use Rattle.handing.proofs.looks.whole.Reads as whole-reads
-use Rattle.state.proofs.own_low.Reads as own-low-reads
 
--- src/looks.rt:89:9
 own-low-requires : tie.Need-own-low-requires
 own-low-requires c κs = search needs
 
--- src/looks.rt:90:11
 whole-requires : tie.Need-whole-requires
 whole-requires c κs = search needs
 
--- src/looks.rt:90:38
 cast-above : tie.Need-cast-above
 cast-above c = search needs
 
--- src/looks.rt:90:54
 cast-above-2 : tie.Need-cast-above-2
 cast-above-2 c = search needs
 
--- src/looks.rt:90:32
 above-requires : tie.Need-above-requires
 above-requires c κs = search needs
 
--- src/looks.rt:90:5
 shown-requires : tie.Need-shown-requires
 shown-requires c κs = search needs
 
--- src/looks.rt:86:1
 returns : tie.Need-returns
-returns c = search needs
+unfolding keptNumbersIn
+returns c =
+    let a = c .before .before .before .before .before .before .args in
+    look-shown (wholeChecks (a .c) (a .acks .now)) refl _ _ _ _ _ (c .before .before .before .whole .ensures) (c .before .before .before .before .own-low .ensures) (omega arith) (c .shown .ensures)
 
 pub kept-numbers-spec : {M : Type 1} → statement M
 kept-numbers-spec =

@@ -2,3 +2,4 @@
 pub mod Answers
 pub mod PartLaws
 pub mod ShownLaws
+pub mod TakingMeans

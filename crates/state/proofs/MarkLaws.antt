@@ -2,13 +2,13 @@
 use mathlib.Core.Bool.{Bool, true, false, not, _&&_, _||_}
 use mathlib.Core.List.{List, [], _∷_}
 use mathlib.Core.Path.{_≡_, refl, sym, ap, subst, _∙_}
-use Prim.Native.Nat.{ℕ, suc, _+_, _-_, _≤_, _<_}
+use Prim.Native.Nat.{ℕ, zero, suc, _+_, _-_, _≤_, _<_}
 use native.Mathlib.Omega.{arith}
 use lib.Dec.{eqb}
-use lib.ListN.{length, getD, set, replicate, length-set, List·getD-eq-default, getD-replicate}
+use lib.ListN.{length, getD, set, replicate, length-set}
 use lib.Seq.{getD-set-same, getD-set-other}
 use Rattle.rules.specs.Maps.{all, among, listed}
-use Rattle.rules.proofs.MapsLaws.{Lt?, lt, ge, lt?, Eq?, same, other, eq?, and-false}
+use Rattle.rules.proofs.MapsLaws.{Eq?, same, other, eq?, and-false}
 use Rattle.tables.proofs.ListedLaws.{listed-left}
 use Rattle.state.specs.Soundness.{noneTwice}
 
@@ -71,16 +71,15 @@ module _ (fits : ℕ → Bool) (m : ℕ) (room : (p : ℕ) → fits p ≡ true �
           ∙ ap (λ (b : Bool). all fits l && (b && noneTwice l)) (unmarked-set marks p l (let x : p < length marks = omega (arith, h refl) in x)))
           ∙ shuffle free (all fits l) (unmarked marks l) (not (among p l)) (noneTwice l)
 
-blank-at : (p : ℕ) → getD blank p false ≡ false
-blank-at p = go (lt? p 128)
-  where
-    go : {t : Bool} → Lt? p 128 t → getD blank p false ≡ false
-    go (lt h) = getD-replicate 128 p false false h
-    go (ge h) = List·getD-eq-default blank false h
+-- every entry of a list that repeats one value, also past its end
+pub getD-blank : {A : Type 0} (m : ℕ) (a : A) (i : ℕ) → getD (replicate m a) i a ≡ a
+getD-blank zero a i = refl
+getD-blank (suc m) a zero = refl
+getD-blank (suc m) a (suc i) = getD-blank m a i
 
 unmarked-blank : (l : List ℕ) → unmarked blank l ≡ true
 unmarked-blank [] = refl
-unmarked-blank (p ∷ l) = rw (blank-at p) (unmarked-blank l)
+unmarked-blank (p ∷ l) = rw (getD-blank 128 false p) (unmarked-blank l)
 
 pub passes-blank : (fits : ℕ → Bool) → ((p : ℕ) → fits p ≡ true → p < 128) → (l : List ℕ) → passes fits blank l ≡ all fits l && noneTwice l
 passes-blank fits room l =

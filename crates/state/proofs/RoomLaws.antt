@@ -55,5 +55,5 @@ module _ (c : Core) (acks : List ℕ) where
         long = long;
         room = sound-room h;
         senders = λ i x.
-        place-sender c acks (entry (c .order) i) (every-at 0 (total (c .order)) (λ q. placeOf c acks (entry (c .order) q)) (sym (all-every (placeOf c acks) 0 (total (c .order)) (entry (c .order))) ∙ fit) i (omega arith) (omega arith));
+            place-sender c acks (entry (c .order) i) (every-at 0 (total (c .order)) (λ q. placeOf c acks (entry (c .order) q)) (sym (all-every (placeOf c acks) 0 (total (c .order)) (entry (c .order))) ∙ fit) i (omega arith) (omega arith));
       }

@@ -1,9 +1,11 @@
 // What a unit holds in numbers: everything but ACK and data of its places, and the kept frames, which are lent.
+mod fresh;
 mod soundness;
 
 use lists::Order;
 use tables;
 ghost use mathlib.Core.Path.{_≡_};
+ghost use Rattle.state.specs.Opening.{openedOf};
 ghost use Rattle.state.specs.Soundness.{ownLow, soundOf};
 
 // The kept frame of number s is in slot s - minAL of the own index, and `kept` holds its length. `seqs` and `lens`
@@ -22,6 +24,41 @@ pub struct Core {
     pub seqs: [u32; 128],
     pub lens: [u8; 128],
     pub order: Order,
+}
+
+// What a unit is opened with: its own index, how many units there are, the window, the group's number, and the first
+// number of each unit.
+pub struct Opening {
+    pub me: u8,
+    pub n: u8,
+    pub w: u8,
+    pub cid: u32,
+    pub first: [u32; 8],
+}
+
+// Answer number and unit.
+pub struct Opened {
+    pub answer: u32,
+    pub core: Core,
+}
+
+// Opens a unit; out of range the answer is 2 and the unit closed, all numbers 0.
+pub fn opened_with(o: Opening) -> Opened
+    ensures { λ r. ⌜ r ≡ openedOf o ⌝ }
+{
+    if fresh::can_open(o) {
+        let core = fresh::unit(o);
+        return Opened { answer: 0, core };
+    }
+    let closed = Opening {
+        me: 0,
+        n: 0,
+        w: 0,
+        cid: 0,
+        first: [0u32; 8],
+    };
+    let core = fresh::unit(closed);
+    Opened { answer: 2, core }
 }
 
 // minAL of the own index.

@@ -1,6 +1,6 @@
 // The tests that make a unit sound, one for each clause.
-use crate::own_low;
 use crate::Core;
+use crate::own_low;
 use lists;
 use tables;
 ghost use mathlib.Core.Path.{_≡_};

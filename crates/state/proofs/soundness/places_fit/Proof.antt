@@ -32,7 +32,7 @@ loop-holds c =
     let o = s .c .order in (
       search needs,
       ap (λ (i : ℕ). passes (placeOf (s .c) (s .acks .now)) (replicate 128 false) (listed 0 i (entry o))) (let e : c .taken .result - 0 ≡ total o = omega arith in e)
-      ∙ passes-blank (placeOf (s .c) (s .acks .now)) (place-room (s .c) (s .acks .now) (c .before .before .before .pre)) (takens o),
+          ∙ passes-blank (placeOf (s .c) (s .acks .now)) (place-room (s .c) (s .acks .now) (c .before .before .before .pre)) (takens o),
     )
 
 byte-requires : tie.Need-byte-requires Inv-loop μ-loop
@@ -86,7 +86,7 @@ loop-again c =
     let once = ap (λ (i : ℕ). getD (q .loop .marks) i false) (sym (c .before .before .before .byte .ensures)) ∙ c .if2 .left in (
       search needs,
       ap (λ (i : ℕ). passes (placeOf (s .c) (s .acks .now)) (set (q .loop .marks) i true) (listed (q .loop .q + 1) (q .before .taken .result - (q .loop .q + 1)) (entry (s .c .order)))) (c .before .before .before .byte .ensures)
-      ∙ passes-more (placeOf (s .c) (s .acks .now)) (entry (s .c .order)) (q .loop .marks) (q .before .taken .result) (q .loop .q) (c .before .before .before .before .before .before .before .loop-test .taken) fit once (q .loop .inv .1),
+          ∙ passes-more (placeOf (s .c) (s .acks .now)) (entry (s .c .order)) (q .loop .marks) (q .before .taken .result) (q .loop .q) (c .before .before .before .before .before .before .before .loop-test .taken) fit once (q .loop .inv .1),
     )
 
 returns-3 : tie.Need-returns-3 Inv-loop μ-loop

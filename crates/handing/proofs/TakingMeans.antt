@@ -17,6 +17,7 @@ use Rattle.rules.proofs.AlikeLaws.{Alike, decide-alike}
 use Rattle.lists.specs.Order.{entry, confirmeds, withoutFirst}
 use Rattle.lists.specs.View.{Shows}
 use Rattle.lists.proofs.ChangeLaws.{first-shows, withoutFirst-shows}
+use Rattle.lists.proofs.ShowLaws.{shows-is}
 use Rattle.tables.specs.Rows.{part}
 use Rattle.state.specs.declared.Core.{Core}
 use Rattle.state.specs.View.{placeAt, keptOf, look}
@@ -53,3 +54,37 @@ module _ (c : Core) (acks bytes frames out : List ℕ) where
     text : length (oldest s .text) ≡ lengthAt c p
     unfolding placeAt
     text = ap (λ (x : Place). length (x .text)) first ∙ length-part bytes (48 * p) (lengthAt c p)
+
+    -- the next state
+    rest : look (withOrder c (withoutFirst (c .order))) acks bytes frames ≡ withoutTaken s
+    unfolding look placeAt keptOf withoutTaken
+    rest = sym (shows-is M (c .n) (withoutFirst (c .order)) s (withoutTaken s) refl (withoutFirst-shows (c .order) long (sound-room c acks h) (omega arith) M (c .n) s S))
+
+    taken : takenMeans acks bytes frames (record { result = takenAt c p; output = written out (part bytes (48 * p) (lengthAt c p)) })
+        ≡ record {
+          answer = 0;
+          numbers = oldest s .src ∷ oldest s .seq ∷ length (oldest s .text) ∷ [];
+          next = withoutTaken s;
+          output = written out (oldest s .text);
+        }
+    unfolding placeAt
+    taken = rw (rest, first, length-part bytes (48 * p) (lengthAt c p))
+
+  alike : length (c .order .list) ≡ 128 → Alike (takingChecks c acks out) (takeChecks s out)
+  unfolding takeChecks
+  alike long = (
+    ap not (sound-look c acks bytes frames),
+    (
+      refl,
+      λ h. (
+        ap (λ (m : ℕ). eqb m 0) (sym count),
+        (refl, λ z. (ap (ltb (length out)) (sym (text long (not-false _ h) (eqb-false (c .order .confirmed) 0 z))), (refl, λ y. tt))),
+      ),
+    ),
+  )
+
+  pub taking-means : length (c .order .list) ≡ 128 → takenMeans acks bytes frames (takingOf c acks bytes out) ≡ take s out
+  unfolding takingOf take
+  taking-means long =
+      decide-alike (takenMeans acks bytes frames) _ _ _ _ (λ a. refl) (takingChecks c acks out) (takeChecks s out) (alike long)
+      (λ passed. taken long (not-false _ (passed .0)) (eqb-false (c .order .confirmed) 0 (passed .1 .0)))

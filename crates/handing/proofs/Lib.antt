@@ -1,5 +1,7 @@
 -- Laws that the proofs of the functions cite, and what the functions mean in the rules.
 pub mod Answers
+pub mod AskingMeans
+pub mod CopyingMeans
 pub mod PartLaws
 pub mod ShownLaws
 pub mod TakingMeans

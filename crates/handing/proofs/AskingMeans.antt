@@ -38,18 +38,19 @@ take-units n l h =
     entry : (i : ℕ) → at l (1 + i) ≡ getD l (0 + i) 0
     entry i = ap (at l) (let e : 1 + i ≡ i + 1 = omega arith in e) ∙ at-next l i ∙ ap (λ (j : ℕ). getD l j 0) (sym (zero-add i))
 
+-- the number of a unit
+pub unit-number : (n k : ℕ) → between 1 n k ≡ true → (l : List ℕ) → at l k ≡ units n (at l) k
+unit-number n k u l = sym (units-in n (at l) k (between-low 1 n k u) (between-high 1 n k u))
+
 module _ (c : Core) (acks bytes frames : List ℕ) (k : ℕ) (out : List ℕ) where
   abbrev s : State
   s = look c acks bytes frames
 
   -- k is a unit
   module _ (u : between 1 (c .n) k ≡ true) where
-    of-k : (l : List ℕ) → at l k ≡ units (c .n) (at l) k
-    of-k l = sym (units-in (c .n) (at l) k (between-low 1 (c .n) k u) (between-high 1 (c .n) k u))
-
     requested : length (c .req) ≡ 8 → soundOf c acks ≡ true → requestFor c k ≡ asking s k
     unfolding asking look
-    requested long h = rw (take-units (c .n) (c .req) (omega (arith, sound-ranges c acks h .n-high)), of-k (c .heard))
+    requested long h = rw (take-units (c .n) (c .req) (omega (arith, sound-ranges c acks h .n-high)), unit-number (c .n) k u (c .heard))
 
     size : 33 + 4 * c .n ≡ length (encode (request (asking s k)))
     unfolding asking look
@@ -62,7 +63,7 @@ module _ (c : Core) (acks bytes frames : List ℕ) (k : ℕ) (out : List ℕ) wh
   unfolding makeChecks look
   alike = (
     ap not (sound-look c acks bytes frames),
-    (refl, λ h. (refl, (refl, λ e. (rw (of-k (is-unit e) (c .heard), of-k (is-unit e) (c .req)), (refl, λ m. (refl, (refl, λ z. tt))))))),
+    (refl, λ h. (refl, (refl, λ e. (rw (unit-number (c .n) k (is-unit e) (c .heard), unit-number (c .n) k (is-unit e) (c .req)), (refl, λ m. (refl, (refl, λ z. tt))))))),
   )
 
   pub asking-means : length (c .req) ≡ 8 → handedMeans s (askingOf c acks k out) ≡ makeRequest s k out

@@ -29,7 +29,7 @@ use Rattle.handing.specs.Handing.{oldestPlace, lengthAt, withOrder, notT
 use Rattle.handing.specs.Meant.{takenMeans}
 use Rattle.handing.proofs.PartLaws.{length-part}
 
-module _ (c : Core) (acks bytes frames out : List ℕ) where
+module _ (c : Core) (acks bytes frames : List ℕ) where
   abbrev s : State
   s = look c acks bytes frames
 
@@ -42,8 +42,8 @@ module _ (c : Core) (acks bytes frames out : List ℕ) where
   S : Shows M (c .n) (c .order) s
   S = shows-look c acks bytes frames
 
-  count : length (s .confirmed) ≡ c .order .confirmed
-  count = ap length (S .confirmed) ∙ length-map (confirmeds (c .order)) M ∙ length-listed 0 (c .order .confirmed) (entry (c .order))
+  pub confirmed-count : length (s .confirmed) ≡ c .order .confirmed
+  confirmed-count = ap length (S .confirmed) ∙ length-map (confirmeds (c .order)) M ∙ length-listed 0 (c .order .confirmed) (entry (c .order))
 
   -- a message is confirmed
   module _ (long : length (c .order .list) ≡ 128) (h : soundOf c acks ≡ true) (some : c .order .confirmed ≢ 0) where
@@ -60,7 +60,7 @@ module _ (c : Core) (acks bytes frames out : List ℕ) where
     unfolding look placeAt keptOf withoutTaken
     rest = sym (shows-is M (c .n) (withoutFirst (c .order)) s (withoutTaken s) refl (withoutFirst-shows (c .order) long (sound-room c acks h) (omega arith) M (c .n) s S))
 
-    taken : takenMeans acks bytes frames (record { result = takenAt c p; output = written out (part bytes (48 * p) (lengthAt c p)) })
+    taken : (out : List ℕ) → takenMeans acks bytes frames (record { result = takenAt c p; output = written out (part bytes (48 * p) (lengthAt c p)) })
         ≡ record {
           answer = 0;
           numbers = oldest s .src ∷ oldest s .seq ∷ length (oldest s .text) ∷ [];
@@ -68,23 +68,23 @@ module _ (c : Core) (acks bytes frames out : List ℕ) where
           output = written out (oldest s .text);
         }
     unfolding placeAt
-    taken = rw (rest, first, length-part bytes (48 * p) (lengthAt c p))
+    taken out = rw (rest, first, length-part bytes (48 * p) (lengthAt c p))
 
-  alike : length (c .order .list) ≡ 128 → Alike (takingChecks c acks out) (takeChecks s out)
+  alike : (out : List ℕ) → length (c .order .list) ≡ 128 → Alike (takingChecks c acks out) (takeChecks s out)
   unfolding takeChecks
-  alike long = (
+  alike out long = (
     ap not (sound-look c acks bytes frames),
     (
       refl,
       λ h. (
-        ap (λ (m : ℕ). eqb m 0) (sym count),
+        ap (λ (m : ℕ). eqb m 0) (sym confirmed-count),
         (refl, λ z. (ap (ltb (length out)) (sym (text long (not-false _ h) (eqb-false (c .order .confirmed) 0 z))), (refl, λ y. tt))),
       ),
     ),
   )
 
-  pub taking-means : length (c .order .list) ≡ 128 → takenMeans acks bytes frames (takingOf c acks bytes out) ≡ take s out
+  pub taking-means : (out : List ℕ) → length (c .order .list) ≡ 128 → takenMeans acks bytes frames (takingOf c acks bytes out) ≡ take s out
   unfolding takingOf take
-  taking-means long =
-      decide-alike (takenMeans acks bytes frames) _ _ _ _ (λ a. refl) (takingChecks c acks out) (takeChecks s out) (alike long)
-      (λ passed. taken long (not-false _ (passed .0)) (eqb-false (c .order .confirmed) 0 (passed .1 .0)))
+  taking-means out long =
+      decide-alike (takenMeans acks bytes frames) _ _ _ _ (λ a. refl) (takingChecks c acks out) (takeChecks s out) (alike out long)
+      (λ passed. taken long (not-false _ (passed .0)) (eqb-false (c .order .confirmed) 0 (passed .1 .0)) out)

@@ -2,6 +2,7 @@
 pub mod Answers
 pub mod AskingMeans
 pub mod CopyingMeans
+pub mod Determined
 pub mod LooksMean
 pub mod PartLaws
 pub mod ShownLaws

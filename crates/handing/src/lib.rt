@@ -1,5 +1,6 @@
 // What a unit hands out without storing anything: the oldest confirmed message, a request, a kept frame, and looks.
 ghost use mathlib.Core.Path.{_≡_};
+ghost use Rattle.rules.specs.Maps.{between};
 ghost use Rattle.handing.specs.Handing.{Gives, notTaken, takingOf, askingOf, copyingOf};
 
 mod copy;
@@ -8,7 +9,6 @@ pub mod looks;
 use copy::put_part;
 use framewrite::write_request;
 use lists::without_first;
-use looks::is_unit;
 use state::Core;
 use state::own_low;
 use state::sound;
@@ -70,6 +70,13 @@ fn not_taken(c: Core, answer: u32) -> Taken
         len: 0,
         core: c,
     }
+}
+
+// k is a unit of a group of n.
+fn is_unit(n: u8, k: u8) -> bool
+    ensures { λ r. ⌜ r ≡ between 1 n k ⌝ }
+{
+    1 <= k && k <= n
 }
 
 // Makes the request for what is missing of unit k, at the front of the output.

@@ -1,8 +1,8 @@
 // Looks at a unit: each answers 1 where the unit is not sound and 5 where k is no unit, and then shows nothing.
 ghost use mathlib.Core.Path.{_≡_};
 ghost use Prim.Native.Nat.{_-_};
-ghost use Rattle.rules.specs.Maps.{between};
 ghost use Rattle.handing.specs.Looks.{lookOf, answerOf, shownWith, wholeChecks, unitChecks, toTakeIn, freePlacesIn, keptNumbersIn, missingIn, waitingIn};
+use crate::is_unit;
 use lists;
 use state::Core;
 use state::own_low;
@@ -14,13 +14,6 @@ pub struct Look {
     pub answer: u32,
     pub first: u32,
     pub count: usize,
-}
-
-// k is a unit of a group of n.
-pub fn is_unit(n: u8, k: u8) -> bool
-    ensures { λ r. ⌜ r ≡ between 1 n k ⌝ }
-{
-    1 <= k && k <= n
 }
 
 // The answer to a look at the whole unit.

@@ -2,8 +2,8 @@
 use borrow.Author.Needs.{needs}
 use borrow.Author.Tests.{le-leb, lt-leb}
 use Rattle.rules.specs.Maps.{between}
-use Rattle.handing.proofs.looks.is_unit.Statement.{statement}
-use Rattle.handing.proofs.looks.is_unit.Tie as tie
+use Rattle.handing.proofs.is_unit.Statement.{statement}
+use Rattle.handing.proofs.is_unit.Tie as tie
 
 returns : tie.Need-returns
 unfolding between

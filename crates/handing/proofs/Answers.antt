@@ -1,13 +1,12 @@
 -- One law for each way out of taking, asking and copying.
-use mathlib.Core.Bool.{Bool, true, false}
+use mathlib.Core.Bool.{true, false}
 use mathlib.Core.List.{List, []}
 use mathlib.Core.Logic.{_≢_}
 use mathlib.Core.Path.{_≡_, refl}
-use Prim.Native.Nat.{ℕ, _+_, _-_, _*_, _≤_, _<_}
+use Prim.Native.Nat.{ℕ, _+_, _*_, _≤_, _<_}
 use lib.ListN.{length, getD, take}
 use borrow.Author.Tests.{eq-eqb, ne-eqb, le-leb, lt-leb, lt-ltb, le-ltb}
 use Rattle.rules.specs.Maps.{between, at}
-use Rattle.rules.specs.Message.{request, encode}
 use Rattle.rules.specs.Calls.{written}
 use Rattle.rules.proofs.MapsLaws.{is-between}
 use Rattle.rules.proofs.SoundLaws.{Ranges}
@@ -19,7 +18,7 @@ use Rattle.state.specs.declared.Core.{Core}
 use Rattle.state.specs.Soundness.{ownLow, soundOf}
 use Rattle.state.specs.View.{look}
 use Rattle.state.proofs.RoomLaws.{sound-shown}
-use Rattle.handing.specs.Handing.{Given, Gives, oldestPlace, lengthAt, withOrder, notTaken, takingOf, handed, notHanded, requestFor, askingOf, slotFor, copyingOf}
+use Rattle.handing.specs.Handing.{Given, Gives, oldestPlace, lengthAt, withOrder, notTaken, takingOf, handed, notHanded, askingOf, slotFor, copyingOf}
 
 module _ {A : Type 0} where
   gives : (g : Given A) (r : A) (after : List ℕ) → g ≡ record { result = r; output = after } → Gives g r after

@@ -1,18 +1,18 @@
 -- Asking means the rules' making of a request.
 use mathlib.Core.Bool.{true, false, not, _||_}
-use mathlib.Core.List.{List, [], _∷_}
+use mathlib.Core.List.{List}
 use mathlib.Core.Path.{_≡_, refl, sym, ap, _∙_}
 use Prim.Native.Nat.{ℕ, _+_, _*_, _≤_}
 use native.Mathlib.Omega.{arith}
 use native.Mathlib.Nat.{zero-add}
-use lib.Dec.{eqb, leb}
+use lib.Dec.{eqb}
 use lib.ListN.{length, getD, take}
 use borrow.Author.Tests.{not-false}
 use Rattle.rules.specs.Maps.{between, at, units, listed}
-use Rattle.rules.specs.Message.{Request, request, encode}
+use Rattle.rules.specs.Message.{request, encode}
 use Rattle.rules.specs.State.{State}
 use Rattle.rules.specs.Steps.{asking}
-use Rattle.rules.specs.Calls.{written, makeChecks, makeRequest}
+use Rattle.rules.specs.Calls.{makeChecks, makeRequest}
 use Rattle.rules.proofs.AlikeLaws.{Alike, decide-alike}
 use Rattle.rules.proofs.ChecksLaws.{or-left}
 use Rattle.rules.proofs.MapsLaws.{between-low, between-high, units-in, length-listed}
@@ -24,7 +24,7 @@ use Rattle.state.specs.declared.Core.{Core}
 use Rattle.state.specs.View.{look}
 use Rattle.state.specs.Soundness.{soundOf}
 use Rattle.state.proofs.SoundLaws.{sound-look}
-use Rattle.handing.specs.Handing.{handed, requestFor, askingChecks, askingOf}
+use Rattle.handing.specs.Handing.{requestFor, askingChecks, askingOf}
 use Rattle.handing.specs.Meant.{handedMeans}
 use Rattle.handing.proofs.Answers.{sound-ranges}
 

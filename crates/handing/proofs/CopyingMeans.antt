@@ -1,15 +1,14 @@
 -- Copying means the rules' copying out of a kept frame.
-use mathlib.Core.Bool.{Bool, true, not, _&&_}
-use mathlib.Core.List.{List, [], _∷_}
+use mathlib.Core.Bool.{true, not, _&&_}
+use mathlib.Core.List.{List}
 use mathlib.Core.Path.{_≡_, refl, sym, ap, _∙_}
-use Prim.Native.Nat.{ℕ, _*_, _≤_, _<_}
-use native.Mathlib.Omega.{arith}
+use Prim.Native.Nat.{ℕ, _*_}
 use lib.Dec.{leb, ltb}
 use lib.ListN.{length}
-use borrow.Author.Tests.{not-false, leb-true, ltb-true, le-leb, lt-ltb}
+use borrow.Author.Tests.{not-false}
 use Rattle.rules.specs.State.{State, minAL}
 use Rattle.rules.specs.Steps.{isKept}
-use Rattle.rules.specs.Calls.{written, copyChecks, copy}
+use Rattle.rules.specs.Calls.{copyChecks, copy}
 use Rattle.rules.proofs.AlikeLaws.{Alike, decide-alike}
 use Rattle.rules.proofs.MapsLaws.{and-left, and-right}
 use Rattle.tables.specs.Rows.{part}

@@ -6,7 +6,7 @@ use Prim.Native.Nat.{ℕ, _-_, _*_}
 use lib.ListN.{length}
 use borrow.Author.Tests.{not-false}
 use Rattle.rules.specs.Maps.{between, at, units}
-use Rattle.rules.specs.State.{Place, State, free}
+use Rattle.rules.specs.State.{State, free}
 use Rattle.rules.specs.Calls.{Check}
 use Rattle.rules.specs.Looks.{Looked, showing, toTake, freePlaces, keptNumbers, missingOf, waitingOf, wholeChecks as wholeChecksOf, unitChecks as unitChecksOf}
 use Rattle.rules.proofs.CallsLaws.{Passed}

@@ -2,10 +2,8 @@
 use mathlib.Core.List.{List, _++_}
 use mathlib.Core.Path.{_≡_, sym, ap, _∙_}
 use Prim.Native.Nat.{ℕ, _+_}
-use native.Mathlib.Omega.{arith}
 use native.Mathlib.Nat.{zero-add}
 use lib.ListN.{length, getD, drop}
-use Rattle.rules.specs.Maps.{listed}
 use Rattle.rules.specs.Calls.{written}
 use Rattle.rules.proofs.MapsLaws.{length-listed}
 use Rattle.tables.specs.Rows.{part}

@@ -1,14 +1,13 @@
 -- Taking means the rules' take.
-use mathlib.Core.Bool.{Bool, true, false, not}
-use mathlib.Core.List.{List, [], _∷_, map}
+use mathlib.Core.Bool.{true, not}
+use mathlib.Core.List.{List, [], _∷_}
 use mathlib.Core.Logic.{_≢_}
 use mathlib.Core.Path.{_≡_, refl, sym, ap, _∙_}
-use Prim.Native.Nat.{ℕ, _-_, _*_, _<_}
+use Prim.Native.Nat.{ℕ, _*_}
 use native.Mathlib.Omega.{arith}
 use lib.Dec.{eqb, ltb}
 use lib.ListN.{length, getD, length-map}
 use borrow.Author.Tests.{eqb-false, not-false}
-use Rattle.rules.specs.Maps.{listed}
 use Rattle.rules.specs.State.{Place, State}
 use Rattle.rules.specs.Steps.{withoutTaken}
 use Rattle.rules.specs.Calls.{written, oldest, takeChecks, take}
@@ -25,7 +24,7 @@ use Rattle.state.specs.Soundness.{soundOf}
 use Rattle.state.proofs.LookLaws.{shows-look}
 use Rattle.state.proofs.SoundLaws.{sound-look}
 use Rattle.state.proofs.RoomLaws.{sound-room}
-use Rattle.handing.specs.Handing.{oldestPlace, lengthAt, withOrder, notTaken, takenAt, takingChecks, takingOf}
+use Rattle.handing.specs.Handing.{oldestPlace, lengthAt, withOrder, takenAt, takingChecks, takingOf}
 use Rattle.handing.specs.Meant.{takenMeans}
 use Rattle.handing.proofs.PartLaws.{length-part}
 

@@ -89,7 +89,11 @@ pub fn missing_of(c: Core, acks: &[u32], k: u8) -> Look
 {
     let req = tables::at(&c.req, k);
     let heard = tables::at(&c.heard, k);
-    shown(of_unit(c, acks, k), req, above(heard as usize, req as usize))
+    shown(
+        of_unit(c, acks, k),
+        req,
+        above(heard as usize, req as usize),
+    )
 }
 
 // How many of unit k's messages wait.

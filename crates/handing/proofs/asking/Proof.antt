@@ -1,4 +1,4 @@
--- TODO
+-- `asking` meets its contract: one law of `Answers` for each way out.
 use borrow.Author.Needs.{needs}
 use mathlib.Core.Bool.{true}
 use mathlib.Core.Path.{_≡_, sym, _∙_}

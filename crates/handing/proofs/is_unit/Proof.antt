@@ -1,5 +1,4 @@
 -- `is_unit` meets its contract.
-use borrow.Author.Needs.{needs}
 use borrow.Author.Tests.{le-leb, lt-leb}
 use Rattle.rules.specs.Maps.{between}
 use Rattle.handing.proofs.is_unit.Statement.{statement}

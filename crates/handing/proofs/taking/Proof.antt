@@ -1,7 +1,6 @@
--- TODO
+-- `taking` meets its contract: one law of `Answers` for each way out.
 use borrow.Author.Needs.{needs}
 use mathlib.Core.Bool.{true}
-use mathlib.Core.Logic.{_≢_}
 use mathlib.Core.Path.{_≡_, sym, _∙_}
 use borrow.Author.Tests.{not-true, not-false}
 use Rattle.state.specs.Soundness.{soundOf}

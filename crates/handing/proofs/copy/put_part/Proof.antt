@@ -1,7 +1,7 @@
 -- After i turns the first i bytes are those of the part, and the others as they were.
 use borrow.Author.Needs.{needs}
-use mathlib.Core.Path.{_≡_, refl, ap, _∙_}
-use Prim.Native.Nat.{ℕ, _+_, _-_, _≤_}
+use mathlib.Core.Path.{_≡_, refl, _∙_}
+use Prim.Native.Nat.{_+_, _-_, _≤_}
 use native.Mathlib.Omega.{arith}
 use lib.ListN.{length, getD, length-set}
 use Rattle.tables.proofs.FillLaws.{filled, filled-set}
@@ -36,8 +36,7 @@ loop-less c = search needs
 loop-again : tie.Need-loop-again Inv-loop μ-loop
 loop-again c =
     let l = c .before .before in
-    let a = l .before .before .before .args in
-    (
+    let a = l .before .before .before .args in (
       (omega arith, length-set (l .loop .out) (l .loop .i) (c .byte .result) ∙ l .loop .inv .0 .1),
       filled-set (a .out .now) (λ k. getD (a .list .now) (a .start + k) 0) (l .loop .i) (c .byte .result) (omega arith) (c .byte .ensures) (l .loop .inv .1),
     )

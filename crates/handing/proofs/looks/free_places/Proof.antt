@@ -1,6 +1,6 @@
 -- The places are 4Wn, and the taken ones are counted by the order.
 use borrow.Author.Needs.{needs}
-use mathlib.Core.Path.{_≡_, refl, sym, ap, _∙_}
+use mathlib.Core.Path.{refl}
 use Prim.Native.Nat.{_*_}
 use native.Mathlib.Nat.{mul-le-mul}
 use native.Mathlib.Omega.{arith}

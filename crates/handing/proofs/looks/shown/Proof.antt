@@ -1,5 +1,4 @@
 -- A refusal shows nothing.
-use borrow.Author.Needs.{needs}
 use borrow.Author.Tests.{eq-eqb, ne-eqb}
 use Rattle.handing.specs.Looks.{shownWith}
 use Rattle.handing.proofs.looks.shown.Statement.{statement}

@@ -1,7 +1,6 @@
 -- The order's count is shown.
 use borrow.Author.Needs.{needs}
-use mathlib.Core.Path.{_≡_, refl, sym, ap, _∙_}
-
+use mathlib.Core.Path.{refl}
 use Rattle.handing.specs.Looks.{unitChecks, waitingIn}
 use Rattle.handing.proofs.ShownLaws.{look-shown}
 use Rattle.handing.proofs.ShownLaws.{look-shown}

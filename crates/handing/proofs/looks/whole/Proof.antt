@@ -1,6 +1,5 @@
 -- Soundness is the only check.
 use borrow.Author.Needs.{needs}
-use borrow.Author.Tests.{not-true, not-false}
 use Rattle.handing.proofs.looks.whole.Statement.{statement}
 use Rattle.handing.proofs.looks.whole.Tie as tie
 

@@ -8,8 +8,6 @@ use borrow.Author.Tests.{not-true, not-false}
 use Rattle.rules.specs.Maps.{between, at}
 use Rattle.state.specs.Soundness.{soundOf}
 use Rattle.handing.proofs.Answers.{asking-1, asking-nobody, asking-oneself, asking-18, asking-16, asking-0}
-use Rattle.handing.proofs.Answers.{asking-1, asking-nobody, asking-oneself, asking-18, asking-16, asking-0}
-use Rattle.handing.proofs.Answers.{asking-1, asking-nobody, asking-oneself, asking-18, asking-16, asking-0}
 use Rattle.handing.proofs.asking.Statement.{statement}
 use Rattle.handing.proofs.asking.Tie as tie
 
@@ -45,7 +43,8 @@ at-requires-2 c κs = search needs
 
 returns-4 : tie.Need-returns-4
 returns-4 c =
-    asking-18 _ _ _ _ (is-sound (c .before .before .before .before .before .before .before .before .before .before .before .before)) (known (c .before .before .before .before .before .before .before .before .before .before)) (c .before .before .before .before .before .before .before .before .before .if3 .left) (omega arith)
+    let other = c .before .before .before .before .before .before .before .before .before in
+    asking-18 _ _ _ _ (is-sound (other .before .before .before)) (known (other .before)) (other .if3 .left) (omega arith)
 
 cast-n : tie.Need-cast-n
 cast-n c = search needs
@@ -58,7 +57,8 @@ add-len c = search needs
 
 returns-5 : tie.Need-returns-5
 returns-5 c =
-    asking-16 _ _ _ _ (is-sound (c .before .before .before .before .before .before .before .before .before .before .before .before .before)) (known (c .before .before .before .before .before .before .before .before .before .before .before)) (c .before .before .before .before .before .before .before .before .before .before .if3 .left) (missing (c .before)) (c .if5 .taken)
+    let other = c .before .before .before .before .before .before .before .before .before .before in
+    asking-16 _ _ _ _ (is-sound (other .before .before .before)) (known (other .before)) (other .if3 .left) (missing (c .before)) (c .if5 .taken)
 
 write-request-requires : tie.Need-write-request-requires
 write-request-requires c κs = search needs
@@ -68,7 +68,10 @@ same-length c = search needs
 
 returns-6 : tie.Need-returns-6
 returns-6 c =
-    asking-0 _ _ _ _ (is-sound (c .before .before .before .before .before .before .before .before .before .before .before .before .before .before .before .before .before .before .before)) (known (c .before .before .before .before .before .before .before .before .before .before .before .before .before .before .before .before .before)) (c .before .before .before .before .before .before .before .before .before .before .before .before .before .before .before .before .if3 .left) (missing (c .before .before .before .before .before .before .before)) (c .before .before .before .before .before .before .if5 .left) _ (c .before .before .before .before .before .before .before .before .before .before .before .before .at .ensures) _ _ (c .before .before .write-request .ensures)
+    let fits = c .before .before .before .before .before .before in
+    let read = fits .before .before .before .before .before .before in
+    let other = read .before .before .before .before in
+    asking-0 _ _ _ _ (is-sound (other .before .before .before)) (known (other .before)) (other .if3 .left) (missing (fits .before)) (fits .if5 .left) _ (read .at .ensures) _ _ (c .before .before .write-request .ensures)
 
 pub asking-spec : {M : Type 1} → statement M
 asking-spec =

@@ -6,8 +6,6 @@ use native.Mathlib.Omega.{arith}
 use borrow.Author.Tests.{not-true, not-false}
 use Rattle.state.specs.Soundness.{soundOf}
 use Rattle.handing.proofs.Answers.{copying-1, copying-before, copying-after, copying-16, copying-0}
-use Rattle.handing.proofs.Answers.{copying-1, copying-before, copying-after, copying-16, copying-0}
-use Rattle.handing.proofs.Answers.{copying-1, copying-before, copying-after, copying-16, copying-0}
 use Rattle.handing.proofs.copying.Statement.{statement}
 use Rattle.handing.proofs.copying.Tie as tie
 
@@ -40,7 +38,8 @@ cast-len c = search needs
 
 returns-4 : tie.Need-returns-4
 returns-4 c =
-    copying-16 _ _ _ _ _ (is-sound (c .before .before .before .before .before .before .before .before)) (omega arith) (c .before .before .before .before .before .if3 .left) _ (omega arith) _ (c .before .byte .ensures) (c .if4 .taken)
+    let before-seq = c .before .before .before .before .before in
+    copying-16 _ _ _ _ _ (is-sound (before-seq .before .before .before)) (omega arith) (before-seq .if3 .left) _ (omega arith) _ (c .before .byte .ensures) (c .if4 .taken)
 
 mul-put-part : tie.Need-mul-put-part
 mul-put-part c = search needs
@@ -53,7 +52,9 @@ same-length c = search needs
 
 returns-5 : tie.Need-returns-5
 returns-5 c =
-    copying-0 _ _ _ _ _ (is-sound (c .before .before .before .before .before .before .before .before .before .before .before .before)) (omega arith) (c .before .before .before .before .before .before .before .before .before .if3 .left) _ (omega arith) _ (c .before .before .before .before .before .byte .ensures) (c .before .before .before .before .if4 .left) _ (c .before .before .put-part .ensures)
+    let fits = c .before .before .before .before in
+    let before-seq = fits .before .before .before .before .before in
+    copying-0 _ _ _ _ _ (is-sound (before-seq .before .before .before)) (omega arith) (before-seq .if3 .left) _ (omega arith) _ (fits .before .byte .ensures) (fits .if4 .left) _ (c .before .before .put-part .ensures)
 
 pub copying-spec : {M : Type 1} → statement M
 copying-spec =

@@ -5,8 +5,6 @@ use mathlib.Core.Path.{_≡_, sym, _∙_}
 use borrow.Author.Tests.{not-true, not-false}
 use Rattle.state.specs.Soundness.{soundOf}
 use Rattle.handing.proofs.Answers.{taking-1, taking-18, taking-16, taking-0}
-use Rattle.handing.proofs.Answers.{taking-1, taking-18, taking-16, taking-0}
-use Rattle.handing.proofs.Answers.{taking-1, taking-18, taking-16, taking-0}
 use Rattle.handing.proofs.taking.Statement.{statement}
 use Rattle.handing.proofs.taking.Tie as tie
 
@@ -47,8 +45,11 @@ not-taken-requires-3 c κs = search needs
 
 returns-3 : tie.Need-returns-3
 returns-3 c =
+    let longer = c .before .before in
+    let found = longer .before .before .before .before in
+    let some = found .before .before .before .before in
     rw (c .not-taken3 .ensures)
-    (taking-16 _ _ _ _ (is-sound (c .before .before .before .before .before .before .before .before .before .before .before .before)) (c .before .before .before .before .before .before .before .before .before .before .if2 .left) _ (c .before .before .before .before .before .before .byte .ensures) _ (c .before .before .byte2 .ensures) (c .before .if3 .taken))
+    (taking-16 _ _ _ _ (is-sound (some .before .before)) (some .if2 .left) _ (found .byte .ensures) _ (longer .byte2 .ensures) (c .before .if3 .taken))
 
 mul-put-part : tie.Need-mul-put-part
 mul-put-part c = search needs
@@ -70,7 +71,12 @@ same-length c = search needs
 
 returns-4 : tie.Need-returns-4
 returns-4 c =
-    taking-0 _ _ _ _ (is-sound (c .before .before .before .before .before .before .before .before .before .before .before .before .before .before .before .before .before .before .before .before)) (c .before .before .before .before .before .before .before .before .before .before .before .before .before .before .before .before .before .before .if2 .left) _ (c .before .before .before .before .before .before .before .before .before .before .before .before .before .before .byte .ensures) _ (c .before .before .before .before .before .before .before .before .before .before .byte2 .ensures) (c .before .before .before .before .before .before .before .before .before .if3 .left) _ (c .get .ensures) _ (c .before .before .before .before .without-first .ensures) _ (c .before .before .before .before .before .before .before .put-part .ensures)
+    let freed = c .before .before .before .before in
+    let copied = freed .before .before .before in
+    let fits = copied .before .before in
+    let found = fits .before .before .before .before .before in
+    let some = found .before .before .before .before in
+    taking-0 _ _ _ _ (is-sound (some .before .before)) (some .if2 .left) _ (found .byte .ensures) _ (fits .before .byte2 .ensures) (fits .if3 .left) _ (c .get .ensures) _ (freed .without-first .ensures) _ (copied .put-part .ensures)
 
 pub taking-spec : {M : Type 1} → statement M
 taking-spec =

@@ -6,7 +6,6 @@ use native.Mathlib.Nat.{mul-le-mul}
 use native.Mathlib.Omega.{arith}
 use Rattle.handing.specs.Looks.{wholeChecks, freePlacesIn}
 use Rattle.handing.proofs.ShownLaws.{look-shown}
-use Rattle.handing.proofs.ShownLaws.{look-shown}
 use Rattle.handing.proofs.looks.free_places.Statement.{statement}
 use Rattle.handing.proofs.looks.free_places.Tie as tie
 

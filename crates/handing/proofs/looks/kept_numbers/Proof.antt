@@ -4,7 +4,6 @@ use mathlib.Core.Path.{refl}
 use native.Mathlib.Omega.{arith}
 use Rattle.handing.specs.Looks.{wholeChecks, keptNumbersIn}
 use Rattle.handing.proofs.ShownLaws.{look-shown}
-use Rattle.handing.proofs.ShownLaws.{look-shown}
 use Rattle.handing.proofs.looks.kept_numbers.Statement.{statement}
 use Rattle.handing.proofs.looks.kept_numbers.Tie as tie
 

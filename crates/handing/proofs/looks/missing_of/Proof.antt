@@ -4,7 +4,6 @@ use mathlib.Core.Path.{refl}
 use native.Mathlib.Omega.{arith}
 use Rattle.handing.specs.Looks.{unitChecks, missingIn}
 use Rattle.handing.proofs.ShownLaws.{look-shown}
-use Rattle.handing.proofs.ShownLaws.{look-shown}
 use Rattle.handing.proofs.looks.missing_of.Statement.{statement}
 use Rattle.handing.proofs.looks.missing_of.Tie as tie
 

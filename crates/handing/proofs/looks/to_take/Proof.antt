@@ -3,7 +3,6 @@ use borrow.Author.Needs.{needs}
 use mathlib.Core.Path.{refl}
 use Rattle.handing.specs.Looks.{wholeChecks, toTakeIn}
 use Rattle.handing.proofs.ShownLaws.{look-shown}
-use Rattle.handing.proofs.ShownLaws.{look-shown}
 use Rattle.handing.proofs.looks.to_take.Statement.{statement}
 use Rattle.handing.proofs.looks.to_take.Tie as tie
 

@@ -3,7 +3,6 @@ use borrow.Author.Needs.{needs}
 use mathlib.Core.Path.{refl}
 use Rattle.handing.specs.Looks.{unitChecks, waitingIn}
 use Rattle.handing.proofs.ShownLaws.{look-shown}
-use Rattle.handing.proofs.ShownLaws.{look-shown}
 use Rattle.handing.proofs.looks.waiting_of.Statement.{statement}
 use Rattle.handing.proofs.looks.waiting_of.Tie as tie
 

@@ -80,7 +80,7 @@ module _ (j m : ℕ) where
 -- ---- the first free slot
 
 module _ (l : List ℕ) where
-  firstFree-le : (i m : ℕ) → firstFree l i m ≤ i + m
+  pub firstFree-le : (i m : ℕ) → firstFree l i m ≤ i + m
   firstFree-le i zero = omega arith
   firstFree-le i (suc m) = go (among i l) (firstFree-le (suc i) m)
     where

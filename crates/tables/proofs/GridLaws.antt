@@ -49,7 +49,7 @@ least-same : (n : ℕ) (f g : ℕ → ℕ) → 1 ≤ n → ((k : ℕ) → 1 ≤ 
 least-same n f g one h =
     omega (arith, least-mono n f g one (λ k a b. omega (arith, h k a b)), least-mono n g f one (λ k a b. omega (arith, h k a b)))
 
-grid-row : (n : ℕ) (t : List ℕ) (k : ℕ) → 1 ≤ k → k ≤ n → grid n t k ≡ units n (at (rowOf t k))
+pub grid-row : (n : ℕ) (t : List ℕ) (k : ℕ) → 1 ≤ k → k ≤ n → grid n t k ≡ units n (at (rowOf t k))
 unfolding grid
 grid-row n t k a b = fun-ext (λ j. rw (is-between 1 n k a b))
 

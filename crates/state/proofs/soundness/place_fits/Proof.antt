@@ -1,0 +1,107 @@
+-- `place_fits` meets its contract.
+use Prim.Native.Nat.{_*_, _≤_, _<_}
+use native.Mathlib.Omega.{arith}
+use borrow.Author.Needs.{needs}
+use borrow.Author.Tests.{le-leb, lt-leb, lt-ltb, le-ltb, not-true, not-false}
+use Rattle.lists.specs.Order.{senderOf, slotOf}
+use Rattle.state.specs.Soundness.{placeOf}
+use Rattle.state.proofs.soundness.place_fits.Statement.{statement}
+use Rattle.state.proofs.soundness.place_fits.Tie as tie
+
+add-if1 : tie.Need-add-if1
+add-if1 c = search needs
+
+returns : tie.Need-returns
+unfolding placeOf
+returns c =
+    let s = c .before .before .args in
+    let sender : s .t1 .n < senderOf (s .p) = omega arith in
+    rw (lt-leb _ _ sender)
+
+cast-if2 : tie.Need-cast-if2
+cast-if2 c = search needs
+
+mul-if2 : tie.Need-mul-if2
+mul-if2 c = search needs
+
+cast-if2-2 : tie.Need-cast-if2-2
+cast-if2-2 c = search needs
+
+returns-2 : tie.Need-returns-2
+unfolding placeOf
+returns-2 c =
+    let s = c .before .before .before .args in
+    let sender : senderOf (s .p) ≤ s .t1 .n = omega arith in
+    let slot : 4 * s .t1 .w ≤ slotOf (s .p) = omega arith in
+    rw (le-leb _ _ sender, le-ltb _ _ slot)
+
+get-requires : tie.Need-get-requires
+get-requires c κs = search needs
+
+cast-between : tie.Need-cast-between
+cast-between c = search needs
+
+between-requires : tie.Need-between-requires
+between-requires c κs = search needs
+
+returns-3 : tie.Need-returns-3
+unfolding placeOf
+returns-3 c =
+    let s = c .before .before .before .before .before .before .before .before .before .args in
+    let sender : senderOf (s .p) ≤ s .t1 .n = omega arith in
+    let slot : slotOf (s .p) < 4 * s .t1 .w = omega arith in
+    let seq = c .before .between in
+    rw (le-leb _ _ sender, lt-ltb _ _ slot, ← c .before .before .get .ensures, ← seq .ensures, not-true (seq .result) (c .if3 .taken))
+
+mul-tail : tie.Need-mul-tail
+mul-tail c = search needs
+
+tail-requires : tie.Need-tail-requires
+tail-requires c κs = search needs
+
+none-zero-requires : tie.Need-none-zero-requires
+none-zero-requires c κs = search needs
+
+returns-4 : tie.Need-returns-4
+unfolding placeOf
+returns-4 c =
+    let s = c .before .before .before .before .before .before .before .before .before .before .before .before .args in
+    let sender : senderOf (s .p) ≤ s .t1 .n = omega (arith, c .before .before .before .before .before .before .before .before .before .before .if1 .left) in
+    let slot : slotOf (s .p) < 4 * s .t1 .w = omega (arith, c .before .before .before .before .before .before .before .before .before .if2 .left) in
+    let seq = c .before .before .before .before .between in
+    let acks = c .before .none-zero in
+    rw (le-leb _ _ sender, lt-ltb _ _ slot, ← c .before .before .before .before .before .get .ensures, ← seq .ensures, not-false (seq .result) (c .before .before .before .if3 .left), ← c .before .before .tail .ensures, ← acks .ensures, not-true (acks .result) (c .if4 .taken))
+
+byte-requires : tie.Need-byte-requires
+byte-requires c κs = search needs
+
+returns-5 : tie.Need-returns-5
+unfolding placeOf
+returns-5 c =
+    let s = c .before .before .before .before .before .before .before .before .before .before .before .before .before .before .before .before .args in
+    let sender : senderOf (s .p) ≤ s .t1 .n = omega (arith, c .before .before .before .before .before .before .before .before .before .before .before .before .before .before .if1 .left) in
+    let slot : slotOf (s .p) < 4 * s .t1 .w = omega (arith, c .before .before .before .before .before .before .before .before .before .before .before .before .before .if2 .left) in
+    let seq = c .before .before .before .before .before .before .before .before .between in
+    let acks = c .before .before .before .before .before .none-zero in
+    rw (le-leb _ _ sender, lt-ltb _ _ slot, ← c .before .before .before .before .before .before .before .before .before .get .ensures, ← seq .ensures, not-false (seq .result) (c .before .before .before .before .before .before .before .if3 .left), ← c .before .before .before .before .before .before .tail .ensures, ← acks .ensures, not-false (acks .result) (c .before .before .before .before .if4 .left), ← c .byte .ensures)
+
+pub place-fits-spec : {M : Type 1} → statement M
+place-fits-spec =
+    tie.close
+    (tie.spec
+    add-if1
+    returns
+    cast-if2
+    mul-if2
+    cast-if2-2
+    returns-2
+    get-requires
+    cast-between
+    between-requires
+    returns-3
+    mul-tail
+    tail-requires
+    none-zero-requires
+    returns-4
+    byte-requires
+    returns-5)

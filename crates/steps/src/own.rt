@@ -1,0 +1,99 @@
+// A send.
+use crate::Sending;
+use crate::place;
+use crate::refused;
+use lists;
+use state;
+use state::Core;
+use store;
+use store::Accepting;
+use tables;
+ghost use mathlib.Core.Path.{_≡_};
+ghost use Prim.Native.Nat.{_≤_};
+ghost use Rattle.steps.specs.Checks.{Ranged, answerOf, windowOpen, sendChecks};
+ghost use Rattle.steps.specs.Sending.{freePlaces, sendingOwn, sendingChecked};
+
+// SEQ is inside the window; the sum may pass 32 bits.
+fn window_open(c: Core) -> bool
+    requires { ⌜ Ranged c ⌝ }
+    ensures { λ r. ⌜ r ≡ windowOpen c ⌝ }
+{
+    let share = tables::least_of(&c.buf, c.n) / (c.n as u32);
+    let ahead = tables::lesser(c.w as u32, share);
+    (c.seq as u64) < (state::own_low(c) as u64) + (ahead as u64)
+}
+
+fn answer(c: Core, len: usize, room: usize) -> u32
+    requires { ⌜ Ranged c ⌝ }
+    ensures { λ r. ⌜ r ≡ answerOf (sendChecks c len room) ⌝ }
+{
+    if 48 < len {
+        return 13;
+    }
+    if 4294967295 <= c.seq {
+        return 14;
+    }
+    if !window_open(c) {
+        return 15;
+    }
+    if place::none_free(c, c.me) {
+        return 12;
+    }
+    if room < 37 + 4 * (c.n as usize) + len {
+        return 16;
+    }
+    0
+}
+
+// The number of free places.
+fn free_places(c: Core) -> u16
+    requires { ⌜ Ranged c ⌝ }
+    ensures { λ r. ⌜ r ≡ freePlaces c ⌝ }
+{
+    let order = c.order;
+    let taken = lists::taken(order);
+    let all = 4 * (c.w as usize) * (c.n as usize);
+    if all < taken {
+        return 0;
+    }
+    (all - taken) as u16
+}
+
+// The frame is kept, and its message stored at the first free place.
+fn kept(c: Core, len: usize) -> Sending
+    requires { ⌜ Ranged c × (len ≤ 48) ⌝ }
+    ensures { λ r. ⌜ r ≡ sendingOwn c len ⌝ }
+{
+    let ack = c.req;
+    let buf = free_places(c);
+    let place = place::first_free(c, c.me);
+    let next = store::keeping(c, (37 + 4 * (c.n as usize) + len) as u8);
+    let m = Accepting {
+        place,
+        seq: c.seq,
+        ack,
+        buf: buf as u32,
+        len: len as u8,
+    };
+    let s = store::stored(next, m);
+    let core = s.core;
+    Sending {
+        answer: 0,
+        buf,
+        slot: store::kept_slot(c),
+        place,
+        gone: s.gone,
+        core,
+    }
+}
+
+pub fn checked(c: Core, len: usize, room: usize) -> Sending
+    requires { ⌜ Ranged c ⌝ }
+    ensures { λ r. ⌜ r ≡ sendingChecked c len room ⌝ }
+{
+    let a = answer(c, len, room);
+    if a == 0 {
+        return kept(c, len);
+    }
+    refused(a, c)
+}

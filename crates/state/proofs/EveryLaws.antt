@@ -7,7 +7,7 @@ use native.Mathlib.Omega.{arith}
 use native.Mathlib.Nat.{add-zero}
 use lib.Dec.{ltb}
 use lib.ListN.{getD, drop}
-use Rattle.rules.specs.Maps.{at, listed, every}
+use Rattle.rules.specs.Maps.{at, every}
 use Rattle.rules.specs.Message.{noZero}
 use Rattle.tables.specs.Rows.{part, noneZero}
 use Rattle.tables.proofs.GridLaws.{at-from}

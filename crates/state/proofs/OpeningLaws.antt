@@ -19,7 +19,7 @@ use Rattle.rules.proofs.OpeningLaws as RulesOpening
 use Rattle.rules.proofs.OpeningLaws.{Opens, passed-opens}
 use Rattle.rules.proofs.SoundLaws.{facts-sound}
 use Rattle.tables.specs.Rows.{part, rowOf, grid, noneZero, raised, withColumn}
-use Rattle.tables.proofs.GridLaws.{Unit?, inside, outside, unit?, at-from, grid-row}
+use Rattle.tables.proofs.GridLaws.{Unit?, inside, outside, unit?, at-from}
 use Rattle.tables.proofs.RowLaws.{at-before}
 use Rattle.state.specs.declared.Core.{Core}
 use Rattle.state.specs.declared.Opened.{Opened}

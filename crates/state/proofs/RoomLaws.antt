@@ -2,7 +2,7 @@
 use mathlib.Core.Bool.{Bool, true, false, _&&_}
 use mathlib.Core.List.{List, []}
 use mathlib.Core.Path.{_≡_, refl, sym, ap, _∙_}
-use Prim.Native.Nat.{ℕ, zero, suc, _+_, _*_, _≤_, _<_}
+use Prim.Native.Nat.{ℕ, zero, suc, _*_, _≤_, _<_}
 use native.Mathlib.Omega.{arith}
 use native.Mathlib.Nat.{mul-le-mul}
 use lib.ListN.{length}
@@ -11,12 +11,12 @@ use Rattle.rules.specs.Sound.{sound}
 use Rattle.rules.proofs.MapsLaws.{and-left, and-right, not-true, every-at}
 use Rattle.rules.proofs.SoundLaws.{Sound, sound-facts}
 use Rattle.rules.proofs.SlotsLaws.{taken-most}
-use Rattle.lists.specs.Order.{senderOf, total, entry, takens}
+use Rattle.lists.specs.Order.{total, entry, takens}
 use Rattle.lists.specs.View.{Whole}
 use Rattle.lists.proofs.TakenLaws.{taken-length}
 use Rattle.state.specs.declared.Core.{Core}
 use Rattle.state.specs.View.{placeAt, look}
-use Rattle.state.specs.Soundness.{placeOf, noneTwice, placesOf, soundOf}
+use Rattle.state.specs.Soundness.{placeOf, placesOf, soundOf}
 use Rattle.state.proofs.LookLaws.{shows-look}
 use Rattle.state.proofs.PlaceLaws.{place-sender}
 use Rattle.state.proofs.SoundLaws.{sound-look}

@@ -4,11 +4,11 @@ use mathlib.Core.List.{List, [], _∷_, map}
 use mathlib.Core.Path.{_≡_, refl, sym, ap, _∙_, fun-ext}
 use Prim.Native.Nat.{ℕ, _+_, _-_, _*_, _≤_, _<_}
 use native.Mathlib.Omega.{arith}
-use lib.Dec.{eqb, leb, ltb}
-use lib.ListN.{length, getD, drop}
+use lib.Dec.{eqb, ltb}
+use lib.ListN.{length, getD}
 use borrow.Author.Tests.{le-leb, lt-ltb, eq-eqb, ltb-true}
 use Rattle.rules.specs.Maps.{between, all, among, at, every, units}
-use Rattle.rules.specs.Message.{last, noZero}
+use Rattle.rules.specs.Message.{last}
 use Rattle.rules.specs.State.{Place, State, minAL, taken}
 use Rattle.rules.specs.Sound.{rangesFit, nextsFit, windowFits, placeFits, keptFit, once, sound}
 use Rattle.rules.proofs.MapsLaws.{and-left, and-right, and-intro, same-test, between-low, between-high, is-between, length-listed, units-in}
@@ -16,7 +16,7 @@ use Rattle.rules.proofs.SoundLaws.{Ranges, rangesFit-facts}
 use Rattle.tables.specs.Rows.{rowOf, part, grid, noneZero}
 use Rattle.tables.proofs.GridLaws.{grid-row}
 use Rattle.tables.proofs.RowLaws.{at-next}
-use Rattle.lists.specs.Order.{senderOf, slotOf, takens}
+use Rattle.lists.specs.Order.{senderOf, takens}
 use Rattle.lists.proofs.PlaceLaws.{All, all-map, once-cons}
 use Rattle.lists.proofs.TakenLaws.{taken-shows}
 use Rattle.state.specs.declared.Core.{Core}

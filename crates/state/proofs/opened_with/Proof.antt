@@ -3,7 +3,6 @@ use mathlib.Core.Path.{ap, _∙_}
 use borrow.Author.Needs.{needs}
 use Rattle.rules.specs.Calls.{openChecks}
 use Rattle.state.specs.declared.Core.{Core}
-use Rattle.state.specs.declared.Opened.{Opened}
 use Rattle.state.specs.Opening.{openedOf}
 use Rattle.state.proofs.OpeningLaws.{closed-fresh}
 use Rattle.state.proofs.opened_with.Statement.{statement}

@@ -1,6 +1,4 @@
 -- `unit` meets its contract.
-use mathlib.Core.List.{List}
-use mathlib.Core.Path.{ap, _∙_}
 use Prim.Native.Nat.{_*_}
 use native.Mathlib.Omega.{arith}
 use native.Mathlib.Nat.{mul-le-mul}

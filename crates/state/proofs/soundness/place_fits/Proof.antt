@@ -1,14 +1,9 @@
 -- `place_fits` meets its contract.
-use mathlib.Core.Bool.{Bool, true, false}
-use mathlib.Core.List.{List}
-use mathlib.Core.Path.{_≡_, sym, ap, _∙_}
-use Prim.Native.Nat.{ℕ, _*_, _≤_, _<_}
+use Prim.Native.Nat.{_*_, _≤_, _<_}
 use native.Mathlib.Omega.{arith}
 use borrow.Author.Needs.{needs}
 use borrow.Author.Tests.{le-leb, lt-leb, lt-ltb, le-ltb, not-true, not-false}
-use Rattle.rules.specs.Maps.{at, between}
 use Rattle.lists.specs.Order.{senderOf, slotOf}
-use Rattle.tables.specs.Rows.{noneZero}
 use Rattle.state.specs.Soundness.{placeOf}
 use Rattle.state.proofs.soundness.place_fits.Statement.{statement}
 use Rattle.state.proofs.soundness.place_fits.Tie as tie

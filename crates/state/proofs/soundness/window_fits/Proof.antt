@@ -1,13 +1,10 @@
 -- `window_fits` meets its contract.
-use mathlib.Core.Bool.{true}
-use mathlib.Core.Path.{_≡_, sym, _∙_}
-use Prim.Native.Nat.{_≤_, _+_}
+use mathlib.Core.Path.{sym, _∙_}
 use native.Mathlib.Omega.{arith}
 use borrow.Author.Needs.{needs}
 use borrow.Author.Tests.{not-true, not-false}
-use Rattle.rules.specs.Maps.{between}
 use Rattle.rules.proofs.MapsLaws.{between-low}
-use Rattle.state.specs.Soundness.{ownLow, windowOf}
+use Rattle.state.specs.Soundness.{windowOf}
 use Rattle.state.proofs.soundness.window_fits.Statement.{statement}
 use Rattle.state.proofs.soundness.window_fits.Tie as tie
 

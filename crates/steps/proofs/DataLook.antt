@@ -11,7 +11,7 @@ use borrow.Author.Tests.{ne-eqb}
 use Rattle.rules.specs.Maps.{at, every, units, upd}
 use Rattle.rules.specs.Message.{Message, message, last}
 use Rattle.rules.specs.State.{State, places}
-use Rattle.rules.specs.Steps.{known, noted}
+use Rattle.rules.specs.Steps.{known, withHeard, noted}
 use Rattle.rules.specs.Calls.{_⇒_, dataChecks}
 use Rattle.rules.proofs.MapsLaws.{units-in}
 use Rattle.tables.specs.Rows.{belowBut, columnOf, raised}
@@ -105,20 +105,4 @@ module _ (c : Core) (acks bytes frames : List ℕ) (p : Message) (most : c .n �
 
     pub noted-look : look (notedOf c f) acks bytes frames ≡ noted s p
     unfolding notedOf noted look placeAt keptOf frameOf
-    noted-look i =
-        record {
-          me = s .me;
-          n = s .n;
-          w = s .w;
-          cid = s .cid;
-          seq = s .seq;
-          req = s .req;
-          al = s .al;
-          pal = s .pal;
-          buf = s .buf;
-          heard = new-heard i;
-          kept = s .kept;
-          waiting = s .waiting;
-          ordered = s .ordered;
-          confirmed = s .confirmed;
-        }
+    noted-look = ap (withHeard s) new-heard

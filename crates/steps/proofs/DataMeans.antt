@@ -99,7 +99,7 @@ module _ (c : Core) (acks bytes frames : List ℕ) (Z : Sized c acks bytes) (p :
   unit-means h count low high passes =
       ap means (decide-answer passes-on (storing c f) (unitChecks c f) refl)
       ∙ ap (λ (l : List Check). means (decide l passes-on (storing c f))) (unit-checks c acks bytes frames p most count low high whole)
-      ∙ decide-map means passes-on (storing c f) refused done (drop 3 (dataChecks s p)) (λ a. notes (among a (9 ∷ 10 ∷ 12 ∷ [])) a) (λ h i. record { answer = 0; numbers = 0 ∷ 0 ∷ []; next = accepted-means (passes h) i; output = [] })
+      ∙ decide-map means passes-on (storing c f) refused done (drop 3 (dataChecks s p)) (λ a x. notes (among a (9 ∷ 10 ∷ 12 ∷ [])) a) (λ h i. record { answer = 0; numbers = 0 ∷ 0 ∷ []; next = accepted-means (passes h) i; output = [] })
     where
       F : Sound s
       F = sound-facts s h

@@ -9,7 +9,7 @@ use borrow.Author.Tests.{ltb-true, ne-eqb}
 use Rattle.rules.specs.Maps.{all}
 use Rattle.rules.specs.Calls.{Check, decide}
 use Rattle.rules.proofs.MapsLaws.{and-left, and-right}
-use Rattle.rules.proofs.CallsLaws.{Passed}
+use Rattle.rules.proofs.CallsLaws.{Passed, Refused, now, later}
 use Rattle.rules.proofs.ChecksLaws.{answersOf}
 use Rattle.steps.specs.Checks.{answerOf}
 
@@ -28,12 +28,12 @@ decide-answer refused done (c ∷ l) h =
 
 -- what f makes of each way to decide
 pub decide-map : {A B : Type 0} (f : A → B) (refused : ℕ → A) (done : A) (refused′ : ℕ → B) (done′ : B) (l : List Check)
-    → ((a : ℕ) → f (refused a) ≡ refused′ a) → (Passed l → f done ≡ done′) → f (decide l refused done) ≡ decide l refused′ done′
+    → ((a : ℕ) → Refused a l → f (refused a) ≡ refused′ a) → (Passed l → f done ≡ done′) → f (decide l refused done) ≡ decide l refused′ done′
 decide-map f refused done refused′ done′ [] r d = d tt
 decide-map f refused done refused′ done′ (c ∷ l) r d =
-    go (c .holds) (λ e. decide-map f refused done refused′ done′ l r (λ p. d (e, p)))
+    go (c .holds) (λ e. r (c .answer) (now e refl)) (λ e. decide-map f refused done refused′ done′ l (λ a x. r a (later e x)) (λ p. d (e, p)))
   where
-    go : (t : Bool) → (t ≡ false → f (decide l refused done) ≡ decide l refused′ done′)
+    go : (t : Bool) → (t ≡ true → f (refused (c .answer)) ≡ refused′ (c .answer)) → (t ≡ false → f (decide l refused done) ≡ decide l refused′ done′)
         → f (cond t (refused (c .answer)) (decide l refused done)) ≡ cond t (refused′ (c .answer)) (decide l refused′ done′)
-    go true h = r (c .answer)
-    go false h = h refl
+    go true g h = g refl
+    go false g h = h refl

@@ -10,7 +10,7 @@ use lib.ListN.{length, drop, set, List·getD-eq-default}
 use borrow.Author.Tests.{ne-eqb}
 use Rattle.rules.specs.Maps.{at, every, units, upd}
 use Rattle.rules.specs.Message.{Message, message, last}
-use Rattle.rules.specs.State.{State, places}
+use Rattle.rules.specs.State.{State}
 use Rattle.rules.specs.Steps.{known, withHeard, noted}
 use Rattle.rules.specs.Calls.{_⇒_, dataChecks}
 use Rattle.rules.proofs.MapsLaws.{units-in}
@@ -28,7 +28,7 @@ use Rattle.store.proofs.RowLaws.{units-set}
 use Rattle.steps.specs.Arrival.{notedOf}
 use Rattle.steps.specs.Checks.{impossible, unitChecks}
 use Rattle.steps.proofs.AckLaws.{at-eight}
-use Rattle.steps.proofs.ChecksLook.{full-look}
+use Rattle.steps.proofs.ChecksLook.{OfGroup, full-look}
 use Rattle.steps.proofs.RowLook.{at-column, at-raised}
 
 -- past the end of a list, and before its start, stands 0
@@ -36,7 +36,7 @@ at-outside : (l : List ℕ) (k : ℕ) → (1 ≤ k → k ≤ length l → ⊥) �
 at-outside l zero h = refl
 at-outside l (suc k) h = List·getD-eq-default l 0 (omega (arith, h (omega arith)))
 
-module _ (c : Core) (acks bytes frames : List ℕ) (p : Message) (most : c .n ≤ 8) (count : length (p .ack) ≡ c .n) (low : 1 ≤ p .src) (high : p .src ≤ c .n) where
+module _ (c : Core) (acks bytes frames : List ℕ) (p : Message) (most : c .n ≤ 8) (G : OfGroup (c .n) (p .src) (p .ack)) where
   abbrev s : State
   s = look c acks bytes frames
 
@@ -60,12 +60,12 @@ module _ (c : Core) (acks bytes frames : List ℕ) (p : Message) (most : c .n �
   unfolding belowBut look
   risen-look =
       every-units (c .n) (λ k. cond (eqb k 0) true (leb (at (columnOf (c .al) (p .src)) k) (at (eight (p .ack)) k))) (λ k. leb (s .al k (p .src)) (at (p .ack) k))
-      (λ k a b. rw (ne-eqb k 0 (λ e. omega arith), at-column (c .n) most k a b (c .al) (p .src) low high, at-eight (p .ack) k))
+      (λ k a b. rw (ne-eqb k 0 (λ e. omega arith), at-column (c .n) most k a b (c .al) (p .src) (G .low) (G .high), at-eight (p .ack) k))
 
   pub unit-checks : Whole (c .n) (c .order) → unitChecks c f ≡ drop 3 (dataChecks s p)
   unfolding dataChecks look frameOf
   unit-checks W i =
-      let req : at (c .req) (p .src) ≡ units (c .n) (at (c .req)) (p .src) = sym (units-in (c .n) (at (c .req)) (p .src) low high) in
+      let req : at (c .req) (p .src) ≡ units (c .n) (at (c .req)) (p .src) = sym (units-in (c .n) (at (c .req)) (p .src) (G .low) (G .high)) in
       (eqb (p .src) (c .me) ⇒ 6)
       ∷ (impossible-look i ⇒ 7)
       ∷ (ltb (p .seq) (req i) ⇒ 8)
@@ -89,7 +89,7 @@ module _ (c : Core) (acks bytes frames : List ℕ) (p : Message) (most : c .n �
     unfolding upd
     at-said k a b =
         sym (units-in (c .n) (at said) k a b)
-        ∙ sym (ap (λ (g : ℕ → ℕ). g k) (units-set (c .n) (eight (p .ack)) (p .src) next low high (omega (arith, length-eight (p .ack) (omega arith)))))
+        ∙ sym (ap (λ (g : ℕ → ℕ). g k) (units-set (c .n) (eight (p .ack)) (p .src) next (G .low) (G .high) (omega (arith, length-eight (p .ack) (omega arith)))))
         ∙ ap (λ (x : ℕ). cond (eqb k (p .src)) next x) (units-in (c .n) (at (eight (p .ack))) k a b ∙ at-eight (p .ack) k)
         ∙ ap (λ (x : ℕ). cond (eqb k (p .src)) x (at (p .ack) k)) (let e : next ≡ suc (p .seq) = omega arith in e)
 

@@ -3,16 +3,16 @@ use mathlib.Core.Bool.{Bool, true, false, not, _&&_, _||_}
 use mathlib.Core.List.{List, [], _∷_}
 use mathlib.Core.Option.{some}
 use mathlib.Core.Path.{_≡_, refl, ap, _∙_}
-use Prim.Native.Nat.{ℕ, _-_, max}
+use Prim.Native.Nat.{ℕ, _-_}
 use lib.Dec.{eqb, leb, ltb}
 use lib.ListN.{drop}
 use Rattle.rules.specs.Maps.{between, at}
 use Rattle.rules.specs.Message.{Request, request}
 use Rattle.rules.specs.State.{State}
-use Rattle.rules.specs.Steps.{resentFrom, resentTo}
+use Rattle.rules.specs.Steps.{resentFrom}
 use Rattle.rules.specs.Sound.{sound}
 use Rattle.rules.specs.Calls as rules
-use Rattle.rules.specs.Calls.{Check, _⇒_, decide, Result, refusal, isUnit, foreign, arriveRequest}
+use Rattle.rules.specs.Calls.{Check, _⇒_, decide, Result, isUnit, foreign, arriveRequest}
 use Rattle.rules.proofs.SoundLaws.{Ranges, sound-facts}
 use Rattle.state.specs.declared.Core.{Core}
 use Rattle.state.specs.View.{look}

@@ -2,32 +2,30 @@
 use mathlib.Core.Bool.{Bool, true, false, cond, not}
 use mathlib.Core.List.{List, [], _∷_}
 use mathlib.Core.Path.{_≡_, refl, sym, ap, subst, _∙_}
-use Prim.Native.Nat.{ℕ, _+_, _-_, _*_, _/_, _≤_, min}
+use Prim.Native.Nat.{ℕ, _+_, _-_, _*_, _≤_}
 use native.Mathlib.Omega.{arith}
 use lib.Dec.{leb, ltb}
 use lib.ListN.{length, drop}
 use borrow.Author.Tests.{ne-eqb}
 use Rattle.rules.specs.Maps.{at, least, units}
 use Rattle.rules.specs.Message.{Message, last}
-use Rattle.rules.specs.State.{State, minAL, free}
-use Rattle.rules.specs.Steps.{window, maySend, outgoing, keeping, sent}
+use Rattle.rules.specs.State.{State, free}
+use Rattle.rules.specs.Steps.{window, maySend, outgoing, sent}
 use Rattle.rules.specs.Sound.{sound}
 use Rattle.rules.specs.Calls as rules
 use Rattle.rules.specs.Calls.{Check, _⇒_, decide, Result, refusal, written, send}
 use Rattle.rules.proofs.MessageLaws.{length-message}
-use Rattle.rules.proofs.CallsLaws.{Passed}
 use Rattle.rules.proofs.ChecksLaws.{refused-above}
 use Rattle.rules.proofs.SoundLaws.{Ranges, Sound, sound-facts}
 use Rattle.rules.proofs.KeepsSound.{Storable}
 use Rattle.rules.proofs.SendLaws.{Sends, passed-sends, outgoing-carries}
 use Rattle.rules.proofs.CallSound.{send-storable}
-use Rattle.tables.specs.Rows.{part}
 use Rattle.tables.proofs.GridLaws.{grid-row, least-grid}
 use Rattle.lists.specs.View.{Whole}
 use Rattle.lists.proofs.TakenLaws.{taken-length}
 use Rattle.state.specs.declared.Core.{Core}
 use Rattle.state.specs.View.{placeAt, look}
-use Rattle.state.specs.Soundness.{ownLow, soundOf}
+use Rattle.state.specs.Soundness.{soundOf}
 use Rattle.state.proofs.LookLaws.{shows-look}
 use Rattle.state.proofs.SoundLaws.{sound-look}
 use Rattle.state.proofs.RoomLaws.{sound-whole}

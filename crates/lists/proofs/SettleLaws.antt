@@ -19,12 +19,12 @@ use Rattle.tables.specs.Rows.{rowOf, grid}
 use Rattle.tables.proofs.GridLaws.{least-grid}
 use Rattle.tables.proofs.ListedLaws.{listed-snoc}
 use Rattle.lists.specs.declared.Order.{Order}
-use Rattle.lists.specs.Order.{senderOf, only, total, entry, waitings, ordereds}
+use Rattle.lists.specs.Order.{senderOf, only, total, entry}
 use Rattle.lists.specs.Settle.{joinedAt, ackedAt, ackedFrom, ackedTo, readyAt, confirmedOne, confirmedAll, settledOf}
 use Rattle.lists.specs.View.{Holds, Shows, showing, Whole, Rearranged}
 use Rattle.lists.proofs.JoinLaws.{Waits, joined-front, joined-past, joined-total, joined-rearranged}
 use Rattle.lists.proofs.RearrangeLaws.{rearranged-whole, rearranged-trans}
-use Rattle.lists.proofs.ShowLaws.{joined-shows, confirmed-shows}
+use Rattle.lists.proofs.ShowLaws.{shows-is, joined-shows, confirmed-shows}
 
 -- ---- settling changes PAL and the lists alone
 
@@ -256,10 +256,4 @@ module _ (M : ℕ → Place) (n : ℕ) (most : n ≤ 8) (al seqs acks : List ℕ
 
   -- settling changes PAL and the lists, and these are the order's
   pub settled-is : after ≡ showing M n new s
-  settled-is =
-      let S′ = settled-tied .shows in
-      settles-lists n s
-      ∙ ap (λ (t : ℕ → ℕ → ℕ). withLists s t (after .waiting) (after .ordered) (after .confirmed)) (S′ .pal)
-      ∙ ap (λ (l : List Place). withLists s (grid n (new .pal)) l (after .ordered) (after .confirmed)) (S′ .waiting)
-      ∙ ap (λ (l : List Place). withLists s (grid n (new .pal)) (map M (waitings new)) l (after .confirmed)) (S′ .ordered)
-      ∙ ap (λ (l : List Place). withLists s (grid n (new .pal)) (map M (waitings new)) (map M (ordereds new)) l) (S′ .confirmed)
+  settled-is = shows-is M n new s after (settles-lists n s) (settled-tied .shows)

@@ -7,7 +7,9 @@ use tables;
 ghost use mathlib.Core.Path.{_≡_};
 ghost use mathlib.Core.List.{[], _∷_, _++_};
 ghost use lib.ListN.{length, drop};
-ghost use Rattle.lists.specs.Order.{isOf, only, total, takens, slotsOf, freeOf, withLast, withoutFirst};
+ghost use Prim.Native.Nat.{_-_};
+ghost use Rattle.rules.specs.Maps.{listed};
+ghost use Rattle.lists.specs.Order.{isOf, only, total, entry, waitings, takens, slotsOf, freeOf, withLast, withoutFirst};
 ghost use Rattle.lists.specs.Settle.{settledOf};
 
 // PAL, and the taken places: the confirmed ones, then the ordered, then the waiting.
@@ -26,13 +28,12 @@ pub fn taken(o: Order) -> usize
     (o.confirmed as usize) + (o.ordered as usize) + (o.waiting as usize)
 }
 
-// How many places of sender j are taken.
-pub fn taken_of(o: Order, j: u8) -> usize
-    ensures { λ r. ⌜ r ≡ length (only (isOf j) (takens o)) ⌝ }
+// How many of the places from index start up to but not including end are sender j's.
+fn count_of(o: Order, j: u8, start: usize, end: usize) -> usize
+    ensures { λ r. ⌜ r ≡ length (only (isOf j) (listed start (end - start) (entry o))) ⌝ }
 {
-    let end = taken(o);
     let mut m: usize = 0;
-    let mut q: usize = 0;
+    let mut q = start;
     while q < end {
         if tables::byte(&o.list, q) / 16 + 1 == j {
             m = m + 1;
@@ -40,6 +41,21 @@ pub fn taken_of(o: Order, j: u8) -> usize
         q = q + 1;
     }
     m
+}
+
+// How many places of sender j are taken.
+pub fn taken_of(o: Order, j: u8) -> usize
+    ensures { λ r. ⌜ r ≡ length (only (isOf j) (takens o)) ⌝ }
+{
+    count_of(o, j, 0, taken(o))
+}
+
+// How many of sender j's messages wait.
+pub fn waiting_of(o: Order, j: u8) -> usize
+    ensures { λ r. ⌜ r ≡ length (only (isOf j) (waitings o)) ⌝ }
+{
+    let start = (o.confirmed as usize) + (o.ordered as usize);
+    count_of(o, j, start, taken(o))
 }
 
 // Which of the sixteen slots of sender j are taken.

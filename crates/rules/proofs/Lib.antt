@@ -5,6 +5,7 @@ pub mod FieldsLaws
 pub mod MessageLaws
 pub mod StepsLaws
 pub mod CallsLaws
+pub mod AlikeLaws
 pub mod Cases
 pub mod InsertLaws
 pub mod PlacesLaws

@@ -8,4 +8,5 @@ pub mod State
 pub mod Steps
 pub mod Sound
 pub mod Calls
+pub mod Looks
 pub mod Demand1

@@ -5,7 +5,7 @@ use mathlib.Core.Path.{_≡_}
 use Prim.Native.Nat.{ℕ, _*_, _≤_}
 use native.Mathlib.Nat.{mul-le-mul}
 use native.Mathlib.Omega.{arith}
-use Rattle.rules.proofs.MapsLaws.{and-left}
+use Rattle.rules.proofs.MapsLaws.{and-left, and-right}
 use Rattle.rules.proofs.SoundLaws.{Ranges, rangesFit-facts}
 use Rattle.rules.specs.Sound.{rangesFit}
 use Rattle.rules.proofs.SlotsLaws.{firstFree-le}
@@ -25,5 +25,5 @@ freeOf-le o j most = omega (arith, firstFree-le (slotsIn j (takens o)) 0 most)
 pub sound-ranged : (c : Core) (acks : List ℕ) → soundOf c acks ≡ true → Ranged c
 unfolding soundOf
 sound-ranged c acks h =
-    let r : Ranges (c .me) (c .n) (c .w) = rangesFit-facts (c .me) (c .n) (c .w) (and-left _ _ h) in
+    let r : Ranges (c .me) (c .n) (c .w) = rangesFit-facts (c .me) (c .n) (c .w) (search (and-left, and-right)) in
     record { own = r .i-low; unit = r .i-high; few = r .n-high; narrow = r .w-high }

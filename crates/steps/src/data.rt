@@ -8,8 +8,10 @@ use state::Core;
 use store;
 use store::Accepting;
 use tables;
+ghost use mathlib.Core.List.{[], _∷_};
 ghost use mathlib.Core.Path.{_≡_};
 ghost use Prim.Native.Nat.{_<_};
+ghost use Rattle.rules.specs.Maps.{among};
 ghost use Rattle.steps.specs.Arrival.{notedOf, storing, unitArrival, dataArrival};
 ghost use Rattle.steps.specs.Checks.{Ranged, FromUnit, answerOf, impossible, turnChecks, unitChecks};
 
@@ -109,6 +111,22 @@ fn stored(c: Core, f: Frame) -> Arrival
     }
 }
 
+// Whether a refusal notes the missing numbers.
+fn notes(answer: u32) -> bool
+    ensures { λ r. ⌜ r ≡ among answer (9 ∷ 10 ∷ 12 ∷ []) ⌝ }
+{
+    if answer == 9 {
+        return true;
+    }
+    if answer == 10 {
+        return true;
+    }
+    if answer == 12 {
+        return true;
+    }
+    false
+}
+
 // The data come from a unit of the group.
 fn from_unit(c: Core, f: Frame) -> Arrival
     requires { ⌜ (Ranged c × FromUnit c f) × (f .len < 256) ⌝ }
@@ -118,7 +136,7 @@ fn from_unit(c: Core, f: Frame) -> Arrival
     if a == 0 {
         return stored(c, f);
     }
-    if a == 9 || a == 10 || a == 12 {
+    if notes(a) {
         return passed(a, 0, 0, noted(c, f));
     }
     passed(a, 0, 0, c)

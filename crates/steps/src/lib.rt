@@ -1,8 +1,8 @@
 // The steps of a unit on its numbers: an arrival and a send, up to what is to be written into the arrays.
 mod asked;
 mod data;
-mod place;
 mod own;
+mod place;
 
 use frame;
 use frame::Frame;

@@ -132,15 +132,17 @@ numbersStored c j next buf =
 unfoldable pub placeStored : Core → ℕ → ℕ → ℕ → Core
 placeStored c place seq len = withPlace c (set (c .seqs) place seq) (set (c .lens) place len) (withLast (c .order) place)
 
+-- once its column is stored: the numbers and the place of the message
+abbrev pub restStored : Accepting → Next → Next
+restStored m x =
+    record {
+      gone = x .gone;
+      core = placeStored (numbersStored (x .core) (senderOf (m .place)) (after (m .seq)) (m .buf)) (m .place) (m .seq) (m .len);
+    }
+
 -- the message is accepted
 unfoldable pub storedOf : Core → Accepting → Next
-storedOf c m =
-    let j : ℕ = senderOf (m .place) in
-    let s : Next = columnStored c j (m .ack) in
-    record {
-      gone = s .gone;
-      core = placeStored (numbersStored (s .core) j (after (m .seq)) (m .buf)) (m .place) (m .seq) (m .len);
-    }
+storedOf c m = restStored m (columnStored c (senderOf (m .place)) (m .ack))
 
 -- the slot of the frame to keep next
 unfoldable pub keptSlot : Core → ℕ

@@ -1,53 +1,46 @@
+-- `arrive` meets its contract.
+use borrow.Author.Tests.{not-true, not-false, eq-eqb, ne-eqb}
+use Rattle.steps.specs.Arrival.{arrivalOf, frameArrival}
+use Rattle.steps.proofs.RangeLaws.{sound-ranged}
+use Rattle.steps.proofs.PassedLaws.{frame-short}
+use mathlib.Core.Path.{sym, _∙_}
 use borrow.Author.Needs.{needs}
 use Rattle.steps.proofs.arrive.Statement.{statement}
 use Rattle.steps.proofs.arrive.Tie as tie
-use Rattle.steps.proofs.arrive.Reads as reads
-use Rattle.steps.proofs.arrive.Lts as lts
-use Rattle.frame.proofs.read.Reads as read-reads
-use Rattle.state.proofs.sound.Reads as sound-reads
-use Rattle.steps.proofs.asked.arrived.Reads as asked-arrived-reads
-use Rattle.steps.proofs.data.arrived.Reads as data-arrived-reads
-use Rattle.steps.proofs.passed.Reads as passed-reads
 
--- src/lib.rt:74:9
 sound-requires : tie.Need-sound-requires
 sound-requires c κs = search needs
 
--- src/lib.rt:75:9
 passed-requires : tie.Need-passed-requires
 passed-requires c κs = search needs
 
--- src/lib.rt:75:9
 returns : tie.Need-returns
-returns c = search needs
+unfolding arrivalOf
+returns c = rw (← c .before .before .sound .ensures, not-true (c .before .before .sound .result) (c .before .if1 .taken)) (c .passed .ensures)
 
--- src/lib.rt:77:9
 read-requires : tie.Need-read-requires
 read-requires c κs = search needs
 
--- src/lib.rt:79:9
 passed-requires-2 : tie.Need-passed-requires-2
 passed-requires-2 c κs = search needs
 
--- src/lib.rt:79:9
 returns-2 : tie.Need-returns-2
-returns-2 c = search needs
+unfolding arrivalOf frameArrival
+returns-2 c = rw (← c .before .before .before .before .before .sound .ensures, not-false (c .before .before .before .before .before .sound .result) (c .before .before .before .before .if1 .left), ← c .before .before .before .read .ensures, ne-eqb _ _ (c .before .if2 .taken)) (c .passed2 .ensures)
 
--- src/lib.rt:82:9
 arrived-requires : tie.Need-arrived-requires
-arrived-requires c κs = search needs
+arrived-requires c κs = (sound-ranged (c .before .before .before .before .before .before .before .before .before .args .c) _ (sym (c .before .before .before .before .before .before .sound .ensures) ∙ not-false (c .before .before .before .before .before .before .sound .result) (c .before .before .before .before .before .if1 .left)), frame-short _ _ (c .before .before .before .before .read .ensures))
 
--- src/lib.rt:84:9
 arrived-requires-2 : tie.Need-arrived-requires-2
 arrived-requires-2 c κs = search needs
 
--- src/lib.rt:71:1
 returns-3 : tie.Need-returns-3
-returns-3 c = search needs
+unfolding arrivalOf frameArrival
+returns-3 c = rw (← c .before .before .before .before .before .before .before .sound .ensures, not-false (c .before .before .before .before .before .before .before .sound .result) (c .before .before .before .before .before .before .if1 .left), ← c .before .before .before .before .before .read .ensures, eq-eqb _ _ (c .before .before .before .if2 .left), eq-eqb _ _ (c .before .if3 .taken)) (c .arrived .ensures)
 
--- src/lib.rt:71:1
 returns-4 : tie.Need-returns-4
-returns-4 c = search needs
+unfolding arrivalOf frameArrival
+returns-4 c = rw (← c .before .before .before .before .before .before .before .sound .ensures, not-false (c .before .before .before .before .before .before .before .sound .result) (c .before .before .before .before .before .before .if1 .left), ← c .before .before .before .before .before .read .ensures, eq-eqb _ _ (c .before .before .before .if2 .left), ne-eqb _ _ (c .before .if3 .left)) (c .arrived2 .ensures)
 
 pub arrive-spec : {M : Type 1} → statement M
 arrive-spec =

@@ -1,28 +1,28 @@
+-- `of_group` meets its contract.
+use borrow.Author.Tests.{eq-eqb, ne-eqb, le-leb, lt-leb}
+use Rattle.steps.specs.Checks.{ofGroup}
+use Rattle.rules.specs.Maps.{between}
 use borrow.Author.Needs.{needs}
 use Rattle.steps.proofs.of_group.Statement.{statement}
 use Rattle.steps.proofs.of_group.Tie as tie
-use Rattle.steps.proofs.of_group.Reads as reads
-use Rattle.steps.proofs.of_group.Lts as lts
 
--- src/lib.rt:61:15
 cast-if1 : tie.Need-cast-if1
 cast-if1 c = search needs
 
--- src/lib.rt:62:9
 returns : tie.Need-returns
-returns c = search needs
+unfolding ofGroup
+returns c = rw (ne-eqb _ _ (c .if1 .taken))
 
--- src/lib.rt:65:9
 returns-2 : tie.Need-returns-2
-returns-2 c = search needs
+unfolding ofGroup between
+returns-2 c = rw (eq-eqb _ _ (c .before .before .if1 .left), lt-leb _ _ (c .if2 .taken))
 
--- src/lib.rt:67:14
 cast-result : tie.Need-cast-result
 cast-result c = search needs
 
--- src/lib.rt:58:1
 returns-3 : tie.Need-returns-3
-returns-3 c = search needs
+unfolding ofGroup between
+returns-3 c = rw (eq-eqb _ _ (c .before .before .before .before .if1 .left), le-leb _ _ (c .before .before .if2 .left))
 
 pub of-group-spec : {M : Type 1} → statement M
 of-group-spec = tie.close (tie.spec cast-if1 returns returns-2 cast-result returns-3)

@@ -1,31 +1,28 @@
+-- `send` meets its contract.
+use borrow.Author.Tests.{not-true, not-false}
+use Rattle.steps.specs.Sending.{sendingOf}
+use Rattle.steps.proofs.RangeLaws.{sound-ranged}
+use mathlib.Core.Path.{sym, _∙_}
 use borrow.Author.Needs.{needs}
 use Rattle.steps.proofs.send.Statement.{statement}
 use Rattle.steps.proofs.send.Tie as tie
-use Rattle.steps.proofs.send.Reads as reads
-use Rattle.steps.proofs.send.Lts as lts
-use Rattle.state.proofs.sound.Reads as sound-reads
-use Rattle.steps.proofs.own.checked.Reads as checked-reads
-use Rattle.steps.proofs.refused.Reads as refused-reads
 
--- src/lib.rt:105:9
 sound-requires : tie.Need-sound-requires
 sound-requires c κs = search needs
 
--- src/lib.rt:106:9
 refused-requires : tie.Need-refused-requires
 refused-requires c κs = search needs
 
--- src/lib.rt:106:9
 returns : tie.Need-returns
-returns c = search needs
+unfolding sendingOf
+returns c = rw (← c .before .before .sound .ensures, not-true (c .before .before .sound .result) (c .before .if1 .taken)) (c .refused .ensures)
 
--- src/lib.rt:108:5
 checked-requires : tie.Need-checked-requires
-checked-requires c κs = search needs
+checked-requires c κs = sound-ranged (c .before .before .before .args .c) _ (sym (c .before .sound .ensures) ∙ not-false (c .before .sound .result) (c .if1 .left))
 
--- src/lib.rt:102:1
 returns-2 : tie.Need-returns-2
-returns-2 c = search needs
+unfolding sendingOf
+returns-2 c = rw (← c .before .before .sound .ensures, not-false (c .before .before .sound .result) (c .before .if1 .left)) (c .checked .ensures)
 
 pub send-spec : {M : Type 1} → statement M
 send-spec = tie.close (tie.spec sound-requires refused-requires returns checked-requires returns-2)

@@ -1,24 +1,25 @@
+-- `names_other` meets its contract.
+use borrow.Author.Tests.{eq-eqb, ne-eqb, le-leb, lt-leb}
+use Rattle.steps.specs.Checks.{namesOther}
+use Rattle.rules.specs.Maps.{between}
 use borrow.Author.Needs.{needs}
 use Rattle.steps.proofs.asked.names_other.Statement.{statement}
 use Rattle.steps.proofs.asked.names_other.Tie as tie
-use Rattle.steps.proofs.asked.names_other.Reads as reads
-use Rattle.steps.proofs.asked.names_other.Lts as lts
 
--- src/asked.rt:18:9
 returns : tie.Need-returns
-returns c = search needs
+unfolding namesOther between
+returns c = rw (lt-leb _ _ (c .if1 .taken))
 
--- src/asked.rt:20:9
 cast-if2 : tie.Need-cast-if2
 cast-if2 c = search needs
 
--- src/asked.rt:21:9
 returns-2 : tie.Need-returns-2
-returns-2 c = search needs
+unfolding namesOther between
+returns-2 c = rw (le-leb _ _ (c .before .before .before .if1 .left), lt-leb _ _ (c .if2 .taken))
 
--- src/asked.rt:14:1
 returns-3 : tie.Need-returns-3
-returns-3 c = search needs
+unfolding namesOther between
+returns-3 c = rw (le-leb _ _ (c .before .before .before .before .if1 .left), le-leb _ _ (c .before .if2 .left))
 
 pub names-other-spec : {M : Type 1} → statement M
 names-other-spec = tie.close (tie.spec returns cast-if2 returns-2 returns-3)

@@ -1,39 +1,36 @@
+-- `arrived` meets its contract.
+use native.Mathlib.Omega.{arith}
+use borrow.Author.Tests.{eq-eqb, ne-eqb, not-true, not-false}
+use Rattle.steps.specs.Arrival.{dataArrival}
+use Rattle.steps.proofs.PassedLaws.{from-unit}
+use mathlib.Core.Path.{sym, _∙_}
 use borrow.Author.Needs.{needs}
 use Rattle.steps.proofs.data.arrived.Statement.{statement}
 use Rattle.steps.proofs.data.arrived.Tie as tie
-use Rattle.steps.proofs.data.arrived.Reads as reads
-use Rattle.steps.proofs.data.arrived.Lts as lts
-use Rattle.steps.proofs.data.from_unit.Reads as from-unit-reads
-use Rattle.steps.proofs.of_group.Reads as of-group-reads
-use Rattle.steps.proofs.passed.Reads as passed-reads
 
--- src/data.rt:132:9
 passed-requires : tie.Need-passed-requires
 passed-requires c κs = search needs
 
--- src/data.rt:132:9
 returns : tie.Need-returns
-returns c = search needs
+unfolding dataArrival
+returns c = rw (ne-eqb _ _ (c .before .if1 .taken)) (c .passed .ensures)
 
--- src/data.rt:134:9
 of-group-requires : tie.Need-of-group-requires
 of-group-requires c κs = search needs
 
--- src/data.rt:135:9
 passed-requires-2 : tie.Need-passed-requires-2
 passed-requires-2 c κs = search needs
 
--- src/data.rt:135:9
 returns-2 : tie.Need-returns-2
-returns-2 c = search needs
+unfolding dataArrival
+returns-2 c = rw (eq-eqb _ _ (c .before .before .before .if1 .left), ← c .before .before .of-group .ensures, not-true (c .before .before .of-group .result) (c .before .if2 .taken)) (c .passed2 .ensures)
 
--- src/data.rt:137:5
 from-unit-requires : tie.Need-from-unit-requires
-from-unit-requires c κs = search needs
+from-unit-requires c κs = ((c .before .before .before .before .before .pre .0, from-unit (c .before .before .before .before .before .args .c) (c .before .before .before .before .before .args .f) (sym (c .before .of-group .ensures) ∙ not-false (c .before .of-group .result) (c .if2 .left))), c .before .before .before .before .before .pre .1)
 
--- src/data.rt:127:1
 returns-3 : tie.Need-returns-3
-returns-3 c = search needs
+unfolding dataArrival
+returns-3 c = rw (eq-eqb _ _ (c .before .before .before .if1 .left), ← c .before .before .of-group .ensures, not-false (c .before .before .of-group .result) (c .before .if2 .left)) (c .from-unit .ensures)
 
 pub arrived-spec : {M : Type 1} → statement M
 arrived-spec =

@@ -1,30 +1,25 @@
+-- `stored` meets its contract.
+use native.Mathlib.Omega.{arith}
+use Rattle.steps.specs.Arrival.{storing}
 use borrow.Author.Needs.{needs}
 use Rattle.steps.proofs.data.stored.Statement.{statement}
 use Rattle.steps.proofs.data.stored.Tie as tie
-use Rattle.steps.proofs.data.stored.Reads as reads
-use Rattle.steps.proofs.data.stored.Lts as lts
-use Rattle.steps.proofs.place.first_free.Reads as first-free-reads
-use Rattle.store.proofs.stored.Reads as stored-reads
 
--- src/data.rt:90:38
 cast-first-free : tie.Need-cast-first-free
-cast-first-free c = search needs
+cast-first-free c = omega (arith, c .before .before .pre .0 .0 .few, c .before .before .pre .0 .1 .unit)
 
--- src/data.rt:90:9
 first-free-requires : tie.Need-first-free-requires
 first-free-requires c κs = search needs
 
--- src/data.rt:96:14
 cast-t8 : tie.Need-cast-t8
-cast-t8 c = search needs
+cast-t8 c = omega (arith, c .before .before .before .before .pre .1)
 
--- src/data.rt:98:9
 stored-requires : tie.Need-stored-requires
 stored-requires c κs = search needs
 
--- src/data.rt:85:1
 returns : tie.Need-returns
-returns c = search needs
+unfolding storing
+returns c = rw (← c .before .before .before .first-free .ensures, ← c .before .stored .ensures)
 
 pub stored-spec : {M : Type 1} → statement M
 stored-spec =

@@ -1,31 +1,29 @@
+-- `checked` meets its contract.
+use native.Mathlib.Omega.{arith}
+use borrow.Author.Tests.{eq-eqb, ne-eqb}
+use Rattle.steps.specs.Sending.{sendingChecked}
+use Rattle.steps.proofs.PassedLaws.{short-data}
+use mathlib.Core.Path.{sym, _∙_}
 use borrow.Author.Needs.{needs}
 use Rattle.steps.proofs.own.checked.Statement.{statement}
 use Rattle.steps.proofs.own.checked.Tie as tie
-use Rattle.steps.proofs.own.checked.Reads as reads
-use Rattle.steps.proofs.own.checked.Lts as lts
-use Rattle.steps.proofs.own.answer.Reads as answer-reads
-use Rattle.steps.proofs.own.kept.Reads as kept-reads
-use Rattle.steps.proofs.refused.Reads as refused-reads
 
--- src/own.rt:94:9
 answer-requires : tie.Need-answer-requires
 answer-requires c κs = search needs
 
--- src/own.rt:96:9
 kept-requires : tie.Need-kept-requires
-kept-requires c κs = search needs
+kept-requires c κs = (c .before .before .pre, short-data (c .before .before .args .c) (c .before .before .args .len) (c .before .before .args .room) (sym (c .before .answer .ensures) ∙ c .if1 .taken))
 
--- src/own.rt:96:9
 returns : tie.Need-returns
-returns c = search needs
+unfolding sendingChecked
+returns c = rw (← c .before .before .answer .ensures, eq-eqb _ _ (c .before .if1 .taken)) (c .kept .ensures)
 
--- src/own.rt:98:5
 refused-requires : tie.Need-refused-requires
 refused-requires c κs = search needs
 
--- src/own.rt:90:1
 returns-2 : tie.Need-returns-2
-returns-2 c = search needs
+unfolding sendingChecked
+returns-2 c = rw (← c .before .before .answer .ensures, ne-eqb _ _ (c .before .if1 .left)) (c .refused .ensures)
 
 pub checked-spec : {M : Type 1} → statement M
 checked-spec =

@@ -1,0 +1,67 @@
+-- Copying means the rules' copying out of a kept frame.
+use mathlib.Core.Bool.{true, not, _&&_}
+use mathlib.Core.List.{List}
+use mathlib.Core.Path.{_≡_, refl, sym, ap, _∙_}
+use Prim.Native.Nat.{ℕ, _*_}
+use lib.Dec.{leb, ltb}
+use lib.ListN.{length}
+use borrow.Author.Tests.{not-false}
+use Rattle.rules.specs.State.{State, minAL}
+use Rattle.rules.specs.Steps.{isKept}
+use Rattle.rules.specs.Calls.{copyChecks, copy}
+use Rattle.rules.proofs.AlikeLaws.{Alike, decide-alike}
+use Rattle.rules.proofs.MapsLaws.{and-left, and-right}
+use Rattle.tables.specs.Rows.{part}
+use Rattle.state.specs.declared.Core.{Core}
+use Rattle.state.specs.View.{lowest, keptOf, look}
+use Rattle.state.specs.Soundness.{ownLow, soundOf}
+use Rattle.state.proofs.LookLaws.{minAL-look, lowest-is}
+use Rattle.state.proofs.SoundLaws.{sound-look}
+use Rattle.handing.specs.Handing.{slotFor, lengthFor, copyingChecks, copyingOf}
+use Rattle.handing.specs.Meant.{handedMeans}
+use Rattle.handing.proofs.Answers.{sound-ranges}
+use Rattle.handing.proofs.PartLaws.{length-part}
+
+module _ (c : Core) (acks bytes frames : List ℕ) where
+  abbrev s : State
+  s = look c acks bytes frames
+
+  -- minAL of the own index
+  module _ (h : soundOf c acks ≡ true) where
+    low : lowest c ≡ ownLow c
+    low = let r = sound-ranges c acks h in lowest-is c (r .i-low) (r .i-high)
+
+    pub own-low : minAL s (s .me) ≡ ownLow c
+    unfolding look
+    own-low = minAL-look c acks bytes frames (c .me) ∙ low
+
+  module _ (x : ℕ) (out : List ℕ) where
+    -- the frame of x, which is kept
+    frame : soundOf c acks ≡ true → leb (ownLow c) x && ltb x (c .seq) ≡ true → s .kept x ≡ part frames (117 * slotFor c x) (lengthFor c x)
+    unfolding look keptOf
+    frame h e = rw (low h, and-left (leb (ownLow c) x) (ltb x (c .seq)) e, and-right (leb (ownLow c) x) (ltb x (c .seq)) e)
+
+    alike : Alike (copyingChecks c acks x out) (copyChecks s x out)
+    unfolding copyChecks isKept look
+    alike = (
+      ap not (sound-look c acks bytes frames),
+      (
+        refl,
+        λ h. (
+          ap (λ (m : ℕ). not (leb m x && ltb x (c .seq))) (sym (own-low (not-false _ h))),
+          (
+            refl,
+            λ e. (
+              ap (ltb (length out)) (sym (ap length (frame (not-false _ h) (not-false _ e)) ∙ length-part frames (117 * slotFor c x) (lengthFor c x))),
+              (refl, λ y. tt),
+            ),
+          ),
+        ),
+      ),
+    )
+
+    pub copying-means : handedMeans s (copyingOf c acks frames x out) ≡ copy s x out
+    unfolding copyingOf copy
+    copying-means =
+        decide-alike (handedMeans s) _ _ _ _ (λ a. refl) (copyingChecks c acks x out) (copyChecks s x out) alike
+        (λ passed. rw (frame (not-false _ (passed .0)) (not-false _ (passed .1 .0)), length-part frames (117 * slotFor c x) (lengthFor c x)))

@@ -126,9 +126,9 @@ module _ (u : Unit) (Z : Shaped (u .core) (u .acks) (u .bytes) (u .frames)) wher
   unfolding sentOf
   sends-data d out r out′ e =
       let m : sentMeans r out′ ≡ rules.send (view u) d out =
-          ap (λ (g : Given Sent). sentMeans (g .result) (g .output)) e
-          ∙ sent-as d out (sendingOf (u .core) (u .acks) (length d) (length out))
-          ∙ sending-means (u .core) (u .acks) (u .bytes) (u .frames) Z d out
+      ap (λ (g : Given Sent). sentMeans (g .result) (g .output)) e
+      ∙ sent-as d out (sendingOf (u .core) (u .acks) (length d) (length out))
+      ∙ sending-means (u .core) (u .acks) (u .bytes) (u .frames) Z d out
       in
       record {
         exact = ap (λ (g : Given Sent). g .result) e;

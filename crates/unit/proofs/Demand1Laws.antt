@@ -8,17 +8,18 @@ use Prim.Native.Nat.{ℕ, _-_, _*_}
 use native.Mathlib.Omega.{arith}
 use lib.Dec.{eqb}
 use lib.ListN.{length}
-use Rattle.rules.specs.Maps.{among}
+use Rattle.rules.specs.Maps.{among, at}
 use Rattle.rules.specs.Message.{Said, decode}
 use Rattle.rules.specs.Sound.{sound}
+use Rattle.rules.specs.Calls as rules
 use Rattle.rules.specs.Calls.{Result, written, Call, call, sends, hears, asks, copies, takes}
-use Rattle.rules.specs.Demand1 as rules
 use Rattle.rules.specs.Demand1.{orderOf, noting}
 use Rattle.rules.proofs.CallsLaws.{decide-cases}
 use Rattle.rules.proofs.CallSound.{one-unsound}
-use Rattle.rules.proofs.Demand1Laws as rules-laws
+use Rattle.rules.proofs.Demand1Laws.{demand1, openingDemand1}
 use Rattle.tables.specs.Rows.{part}
 use Rattle.state.specs.declared.Core.{Core}
+use Rattle.state.specs.declared.Opening.{Opening}
 use Rattle.state.specs.Soundness.{soundOf}
 use Rattle.frame.specs.declared.Frame.{Frame}
 use Rattle.frame.specs.Frame.{frameOf}
@@ -31,18 +32,19 @@ use Rattle.steps.specs.Checks.{answerOf, groupChecks, unitChecks, requestChecks
 use Rattle.steps.specs.Arrival.{withHeard, notedOf, passing, storing, unitArrival, dataArrival, requestArrival, frameArrival, arrivalOf}
 use Rattle.steps.specs.Sending.{sendingOf}
 use Rattle.unit.specs.declared.Unit.{Unit}
+use Rattle.unit.specs.declared.Opened.{Opened}
 use Rattle.unit.specs.declared.Sent.{Sent}
 use Rattle.unit.specs.declared.Arrived.{Arrived}
 use Rattle.unit.specs.declared.Taken.{Taken}
 use Rattle.unit.specs.View.{Outcome, view, meant, ofSent, ofArrived, ofHanded, ofTaken}
 use Rattle.unit.specs.Exact.{withCore, doneSend, refusedSend, sentBy, sentOf, arrivedUnit, arrivedBy, arrivedOf, takenOf}
-use Rattle.unit.specs.Contracts.{Sends, Arrives, Asks, Copies, Takes}
+use Rattle.unit.specs.Contracts.{Opens, Sends, Arrives, Asks, Copies, Takes}
 use Rattle.unit.specs.Demand1.{Stays, Refusing, Demand1}
 
 -- answer, numbers and output are those of the rules; the unit is the call's own part
 demand1-with : (u : Unit) (c : Call) (x : Outcome) → meant x ≡ call (view u) c → (x .answer ≢ 0 → Stays u c (x .answer) (x .next)) → Demand1 u c x
 demand1-with u c x m stays =
-    let d = rules-laws.demand1 (view u) c in
+    let d = demand1 (view u) c in
     let a = ap (λ (r : Result). r .answer) m in
     record {
       answers = ap (λ (n : ℕ). among n (0 ∷ orderOf c)) a ∙ d .answers;
@@ -149,6 +151,14 @@ module _ (u : Unit) (out : List ℕ) (r : Handed) (out′ : List ℕ) where
 
   pub copies-demand1 : (x : ℕ) → Copies u x out r out′ → Demand1 u (copies x out) (ofHanded u r out′)
   copies-demand1 x c = demand1-with u (copies x out) (ofHanded u r out′) (c .means) (λ h. unchanged u (copies x out) (r .answer) u refl)
+
+-- ---- opening
+
+-- 0 or 2; that another answer than 0 gives the closed unit is a clause of the contract
+pub opens-answers : (o : Opening) (r : Opened) → Opens o r → among (r .answer) (0 ∷ 2 ∷ []) ≡ true
+opens-answers o r c =
+    ap (λ (x : rules.Opened). among (x .answer) (0 ∷ 2 ∷ [])) (c .means)
+    ∙ openingDemand1 (o .me) (o .n) (o .w) (o .cid) (at (o .first)) .answers
 
 -- ---- answer 1
 

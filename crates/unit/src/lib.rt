@@ -168,8 +168,8 @@ impl Unit {
         let c = self.core;
         let acks = self.acks;
         let t = handing::taking(c, &acks, &self.bytes, out);
-        let next = t.core;
-        self.core = next;
+        let rest = t.core;
+        self.core = rest;
         Taken {
             answer: t.answer,
             src: t.src,

@@ -10,7 +10,7 @@ use lib.ListN.{length, take, drop, length-take, length-append}
 use lib.Seq.{take-append-seam}
 use borrow.Author.Tests.{eq-eqb, ne-eqb, eqb-true, eqb-false, ltb-false, le-ltb}
 use Rattle.rules.specs.Message.{message, encode, decode}
-use Rattle.rules.specs.Calls.{written}
+use Rattle.rules.specs.Calls.{written, answerOf}
 use Rattle.rules.proofs.MapsLaws.{is-between}
 use Rattle.rules.proofs.MessageLaws.{length-message}
 use Rattle.rules.proofs.SoundLaws.{Ranges}
@@ -24,7 +24,7 @@ use Rattle.store.specs.Store.{settledOf}
 use Rattle.steps.specs.declared.Arrival.{Arrival}
 use Rattle.steps.specs.declared.Sending.{Sending}
 use Rattle.steps.specs.Arrival.{arrivalOf}
-use Rattle.steps.specs.Checks.{answerOf, sendChecks}
+use Rattle.steps.specs.Checks.{sendChecks}
 use Rattle.steps.specs.Sending.{refusedSend as refusing, sendingOwn, sendingChecked, sendingOf}
 use Rattle.steps.specs.Means.{ownFrame}
 use Rattle.steps.proofs.PassedLaws.{passed-all}

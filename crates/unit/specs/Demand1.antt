@@ -8,7 +8,7 @@ use lib.ListN.{replicate}
 use Rattle.rules.specs.Maps.{among}
 use Rattle.rules.specs.Calls.{Call}
 use Rattle.rules.specs.Demand1.{orderOf, lent, handed, noting}
-use Rattle.steps.specs.Arrival.{withHeard}
+use Rattle.state.specs.Changed.{withHeard}
 use Rattle.unit.specs.declared.Unit.{Unit}
 use Rattle.unit.specs.View.{Outcome}
 use Rattle.unit.specs.Exact.{withCore}

@@ -40,7 +40,7 @@ use Rattle.unit.specs.declared.Taken.{Taken}
 use Rattle.unit.specs.View.{Outcome, view, meant, ofSent, ofArrived, ofHanded, ofTaken}
 use Rattle.unit.specs.Exact.{withCore, doneSend, refusedSend, sentBy, sentOf, arrivedUnit, arrivedBy, arrivedOf, takenOf}
 use Rattle.unit.specs.Contracts.{Opens, Sends, Arrives, Asks, Copies, Takes}
-use Rattle.unit.specs.Demand1.{Stays, Refusing, Demand1}
+use Rattle.unit.specs.Demand1.{Stays, Demand1}
 
 -- answer, numbers and output are those of the rules; the unit is the call's own part
 demand1-with : (u : Unit) (c : Call) (x : Outcome) → meant x ≡ call (view u) c → (x .answer ≢ 0 → Stays u c (x .answer) (x .next)) → Demand1 u c x

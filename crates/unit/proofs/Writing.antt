@@ -5,11 +5,11 @@ use mathlib.Core.Logic.{_≢_}
 use mathlib.Core.Path.{_≡_, refl, sym, ap, _∙_}
 use Prim.Native.Nat.{ℕ, _+_, _*_, _≤_}
 use native.Mathlib.Omega.{arith}
-use lib.Dec.{eqb, ltb}
+use lib.Dec.{eqb}
 use lib.ListN.{length, take, drop, length-take, length-append}
 use lib.Seq.{take-append-seam}
 use borrow.Author.Tests.{eq-eqb, ne-eqb, eqb-true, eqb-false, ltb-false, le-ltb}
-use Rattle.rules.specs.Message.{message, encode, decode}
+use Rattle.rules.specs.Message.{decode}
 use Rattle.rules.specs.Calls.{written, answerOf}
 use Rattle.rules.proofs.MapsLaws.{is-between}
 use Rattle.rules.proofs.MessageLaws.{length-message}
@@ -28,10 +28,7 @@ use Rattle.steps.specs.Checks.{sendChecks}
 use Rattle.steps.specs.Sending.{refusedSend as refusing, sendingOwn, sendingChecked, sendingOf}
 use Rattle.steps.specs.Means.{ownFrame}
 use Rattle.steps.proofs.PassedLaws.{passed-all}
-use Rattle.handing.specs.Handing.{Given}
 use Rattle.unit.specs.declared.Unit.{Unit}
-use Rattle.unit.specs.declared.Sent.{Sent}
-use Rattle.unit.specs.declared.Arrived.{Arrived}
 use Rattle.unit.specs.Exact.{withCore, storedWith, refusedSend, sentUnit, sentBy, sentOf, arrivedUnit, arrivedBy, arrivedOf}
 
 -- what is written into the arrays of u, and settled; `slots` are the kept frames then

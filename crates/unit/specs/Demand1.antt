@@ -1,6 +1,6 @@
 -- Demand 1 of a unit: what each call may answer, and what a refusal leaves as it was, of the unit's whole value.
 use mathlib.Core.Bool.{true, false}
-use mathlib.Core.List.{List, _∷_}
+use mathlib.Core.List.{_∷_}
 use mathlib.Core.Logic.{_≢_}
 use mathlib.Core.Path.{_≡_}
 use Prim.Native.Nat.{ℕ}

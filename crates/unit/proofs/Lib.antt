@@ -1,0 +1,2 @@
+-- What the calls on a unit mean, that they keep it sound, and that their contracts allow one result.
+pub mod Means

@@ -1,2 +1,3 @@
 -- What the calls on a unit mean, that they keep it sound, and that their contracts allow one result.
 pub mod Means
+pub mod Writing

@@ -6,7 +6,7 @@ use mathlib.Core.Path.{_≡_, refl, sym, ap, _∙_}
 use Prim.Native.Nat.{ℕ, _+_, _*_, _≤_}
 use native.Mathlib.Omega.{arith}
 use lib.Dec.{eqb, ltb}
-use lib.ListN.{length, take, drop, length-take}
+use lib.ListN.{length, take, drop, length-take, length-append}
 use lib.Seq.{take-append-seam}
 use borrow.Author.Tests.{eq-eqb, ne-eqb, eqb-true, eqb-false, ltb-false, le-ltb}
 use Rattle.rules.specs.Message.{message, encode, decode}
@@ -76,21 +76,25 @@ sendable c acks len room = go (soundOf c acks) refl (eqb (answerOf (sendChecks c
     go true s false z e = absurd (eqb-false (answerOf (sendChecks c len room)) 0 z e)
     go false s z h e = absurd (omega arith)
 
-
-module _ (c : Core) (buf : ℕ) (d out : List ℕ) (most : c .n ≤ length (c .req)) where
+module _ (c : Core) (buf : ℕ) (d : List ℕ) (most : c .n ≤ length (c .req)) where
   -- the frame, 37 + 4n + d bytes long
   pub own-length : length (ownFrame c buf d) ≡ 37 + 4 * c .n + length d
   unfolding ownFrame
   own-length = omega (arith, length-message (messageOf (c .cid) (c .me) (c .seq) (take (c .n) (c .req)) buf d), length-take (c .n) (c .req))
 
   -- stands at the front of the output
-  module _ (p : Sendable c (length d) (length out)) (answer : ℕ) (after : List ℕ)
+  module _ (out : List ℕ) (p : Sendable c (length d) (length out)) (answer : ℕ) (after : List ℕ)
       (w : Wrote (dataWritten (c .n) (messageOf (c .cid) (c .me) (c .seq) (take (c .n) (c .req)) buf d) out) answer after) where
     pub own-written : after ≡ written out (ownFrame c buf d)
     unfolding dataWritten ownFrame
     own-written =
         let n = is-between 2 8 (c .n) (p .ranges .n-low) (p .ranges .n-high) in
         rw (n, le-ltb 48 (length d) (p .short), le-ltb (length out) (37 + 4 * c .n + length d) (p .fits)) at (w .leaves)
+
+    pub own-fits : 37 + 4 * c .n + length d ≤ length after
+    own-fits =
+        let f = ownFrame c buf d in
+        omega (arith, own-length, ap length own-written, length-append f (drop (length f) out))
 
     pub own-front : take (37 + 4 * c .n + length d) after ≡ ownFrame c buf d
     own-front =
@@ -103,7 +107,7 @@ module _ (u : Unit) (d out : List ℕ) (s : Sending) (e : s ≡ sendingOf (u .co
   unfolding sentOf sentBy
   sent-refused h = rw (← e, ne-eqb (s .answer) 0 h)
 
-  pub sent-done : s .answer ≡ 0 → (len : ℕ) (frame after : List ℕ) → len ≡ length frame → frame ≡ ownFrame (u .core) (s .buf) d
+  pub sent-done : s .answer ≡ 0 → (len : ℕ) (frame after : List ℕ) → len ≡ length (ownFrame (u .core) (s .buf) d) → frame ≡ ownFrame (u .core) (s .buf) d
       → after ≡ written out (ownFrame (u .core) (s .buf) d)
       → record {
         result = record {

@@ -1,8 +1,7 @@
 -- The request is the one that `handing` makes.
 use borrow.Author.Needs.{needs}
-use mathlib.Core.Path.{_≡_}
-use lib.ListN.{length}
 use Rattle.unit.proofs.Means.{asks-missing}
+use Rattle.unit.proofs.Shape.{shaped}
 use Rattle.unit.proofs.Unit.request.Statement.{statement}
 use Rattle.unit.proofs.Unit.request.Tie as tie
 
@@ -16,10 +15,8 @@ returns : tie.Need-returns
 returns c =
     let start = c .before .before .before .before .before .before .before .before .before in
     let u = start .args .t1 in
-    let g = start .good .0 .1 .1 .0 .1 .1 .1 .1 .1 in
-    let long : length (u .core .req) ≡ 8 = search needs in
     let given = c .before .before .asking .ensures in
-    asks-missing u long _ _ _ _ (given .result) (given .output)
+    asks-missing u (shaped u _ (start .good .0 .1 .1) .sized .req) _ _ _ _ (given .result) (given .output)
 
 pub request-spec : {M : Type 1} → statement M
 request-spec = tie.close (tie.spec asking-requires same-length returns)

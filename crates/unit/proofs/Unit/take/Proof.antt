@@ -1,9 +1,8 @@
 -- The numbers of `handing` come into the unit, and its arrays stay.
 use borrow.Author.Needs.{needs}
-use mathlib.Core.Path.{_≡_}
-use lib.ListN.{length}
 use Rattle.unit.specs.Exact.{takenOf}
 use Rattle.unit.proofs.Means.{takes-message}
+use Rattle.unit.proofs.Shape.{shaped}
 use Rattle.unit.proofs.Unit.take.Statement.{statement}
 use Rattle.unit.proofs.Unit.take.Tie as tie
 
@@ -21,10 +20,8 @@ unfolding takenOf
 returns c =
     let start = c .before .before .before .before .before .before .before .before .before .before .before .before in
     let u = start .args .t1 in
-    let g = start .good .0 .1 .1 .0 .1 .1 .1 .1 .1 .1 .1 .1 .1 .1 .1 .1 .1 in
-    let long : length (u .core .order .list) ≡ 128 = search needs in
     let given = c .before .before .before .taking .ensures in
-    takes-message u long (start .args .out .now) _ _ (rw (given .result)) (given .output)
+    takes-message u (shaped u _ (start .good .0 .1 .1) .sized .list) (start .args .out .now) _ _ (rw (given .result)) (given .output)
 
 pub take-spec : {M : Type 1} → statement M
 take-spec = tie.close (tie.spec slice-aggregate-taking taking-requires same-length returns)

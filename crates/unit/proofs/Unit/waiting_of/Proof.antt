@@ -1,9 +1,8 @@
 -- The waiting messages of k are counted.
 use borrow.Author.Needs.{needs}
-use mathlib.Core.Path.{_≡_}
-use lib.ListN.{length}
 use Rattle.handing.proofs.LooksMean.{waiting-of-means}
 use Rattle.unit.proofs.Means.{looks-shown}
+use Rattle.unit.proofs.Shape.{shaped}
 use Rattle.unit.proofs.Unit.waiting_of.Statement.{statement}
 use Rattle.unit.proofs.Unit.waiting_of.Tie as tie
 
@@ -14,9 +13,7 @@ returns : tie.Need-returns
 returns c =
     let a = c .before .before .before .before .before .args in
     let u = a .t1 in
-    let g = c .before .before .before .before .before .good .0 .1 .1 .0 .1 .1 .1 .1 .1 .1 .1 .1 .1 .1 .1 .1 .1 in
-    let long : length (u .core .order .list) ≡ 128 = search needs in
-    looks-shown _ _ (waiting-of-means (u .core) (u .acks) (u .bytes) (u .frames) (a .k) long) _ (c .waiting-of .ensures)
+    looks-shown _ _ (waiting-of-means (u .core) (u .acks) (u .bytes) (u .frames) (a .k) (shaped u _ (c .before .before .before .before .before .good .0 .1 .1) .sized .list)) _ (c .waiting-of .ensures)
 
 pub waiting-of-spec : {M : Type 1} → statement M
 waiting-of-spec = tie.close (tie.spec waiting-of-requires returns)

@@ -13,7 +13,7 @@ use Rattle.drive.specs.declared.Summed.{Summed}
 
 -- ---- sums, modulo 2^32
 
-unfoldable pub mixed : ℕ → ℕ → ℕ
+abbrev pub mixed : ℕ → ℕ → ℕ
 mixed s x = (3 * s + x % 4294967296) % 4294967296
 
 abbrev pub withBytes : ℕ → List ℕ → ℕ
@@ -26,7 +26,7 @@ withMessage s src seq len out = withBytes (mixed (mixed (mixed s src) seq) len) 
 -- ---- taking
 
 -- the message g of a take goes into the sum, and so do those after it, at most so many
-abbrev pub allTaken : ℕ → Given Taken → ℕ → Summed
+unfoldable pub allTaken : ℕ → Given Taken → ℕ → Summed
 allTaken zero g s = record { sum = s; unit = g .result .unit }
 allTaken (suc m) g s =
     let t : Taken = g .result in
@@ -56,7 +56,7 @@ unitOf n w k = openedOf (record { me = k; n = n; w = w; cid = 1; first = replica
 -- eight units, the first k of them opened in turn
 abbrev pub openedUnits : ℕ → ℕ → ℕ → List Unit
 openedUnits n w zero = replicate 8 (unitOf n w 0)
-openedUnits n w (suc k) = set (openedUnits n w k) k (unitOf n w (suc k))
+openedUnits n w (suc k) = set (openedUnits n w k) k (unitOf n w (k + 1))
 
 pub record Group : Type 0 where
   pub units : List Unit

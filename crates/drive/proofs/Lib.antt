@@ -1,0 +1,3 @@
+-- What the proofs of a run share.
+pub mod Sums
+pub mod Taking

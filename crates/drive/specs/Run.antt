@@ -64,11 +64,15 @@ pub record Group : Type 0 where
   pub frame : List ℕ
   pub sum : ℕ
 
+-- where in the group visit i is: message i / n starts at its sender
+abbrev pub unitAt : ℕ → ℕ → ℕ
+unitAt n i = (i / n + i % n) % n
+
 -- visit i of a group of n
 abbrev pub visitedAt : ℕ → ℕ → ℕ → Group → Group
 visitedAt n w i g =
     let m : ℕ = i / n in
-    let k : ℕ = (m + i % n) % n in
+    let k : ℕ = unitAt n i in
     let text : List ℕ = set (g .text) (m % 16) (m % 256) in
     let v : Given Summed = visitOf (getD (g .units) k (unitOf n w 0)) (eqb (i % n) 0) text (g .frame) (53 + 4 * n) (g .sum) in
     record { units = set (g .units) k (v .result .unit); text = text; frame = v .output; sum = v .result .sum }

@@ -6,7 +6,7 @@ ghost use lib.Dec.{eqb};
 ghost use lib.ListN.{length, replicate};
 ghost use Rattle.handing.specs.Handing.{Gives};
 ghost use Rattle.unit.specs.Exact.{takenOf};
-ghost use Rattle.drive.specs.Run.{mixed, withBytes, withMessage, allTaken, visitOf, openedUnits, runOf};
+ghost use Rattle.drive.specs.Run.{mixed, withBytes, withMessage, allTaken, visitOf, openedUnits, unitAt, runOf};
 use script::Value;
 use script::number;
 use state::Opening;
@@ -110,6 +110,14 @@ fn opened(n: u8, w: u8) -> [Unit; 8]
     units
 }
 
+// The unit of visit i, counted from 0: its sender is first, and the others follow in turn.
+fn unit_at(i: usize, n: usize) -> usize
+    requires { ⌜ 1 ≤ n ⌝ }
+    ensures { λ r. ⌜ (r ≡ unitAt n i) × (r < n) ⌝ }
+{
+    (i / n + i % n) % n
+}
+
 // The sum over so many visits. Each message makes n: its sender's, and one at each other unit in turn.
 fn run(n: u8, w: u8, visits: usize) -> u32
     requires { ⌜ (1 ≤ n) × (n ≤ 8) ⌝ }
@@ -123,7 +131,7 @@ fn run(n: u8, w: u8, visits: usize) -> u32
     let mut i: usize = 0;
     while i < visits {
         let m = i / size;
-        let k = (m + i % size) % size;
+        let k = unit_at(i, size);
         text[m % 16] = (m % 256) as u8;
         let u = units[k];
         let v = visited(u, i % size == 0, &text, &mut frame, 53 + 4 * size, sum);

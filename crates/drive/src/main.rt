@@ -41,7 +41,10 @@ fn with_bytes(before: u32, s: &[u8]) -> u32
 fn with_message(sum: u32, src: u8, seq: u32, len: usize, out: &[u8]) -> u32
     ensures { λ r. ⌜ r ≡ withMessage sum src seq len (now (out .entry)) ⌝ }
 {
-    with_bytes(mixed(mixed(mixed(sum, src as usize), seq as usize), len), out)
+    with_bytes(
+        mixed(mixed(mixed(sum, src as usize), seq as usize), len),
+        out,
+    )
 }
 
 // The sum, continued with everything that the unit may show.
@@ -118,12 +121,13 @@ fn unit_at(i: usize, n: usize) -> usize
     (i / n + i % n) % n
 }
 
-// The sum over so many visits. Each message makes n: its sender's, and one at each other unit in turn.
-fn run(n: u8, w: u8, visits: usize) -> u32
+// The sum over so many messages, each of which makes n visits.
+fn run(n: u8, w: u8, messages: u32) -> u32
     requires { ⌜ (1 ≤ n) × (n ≤ 8) ⌝ }
-    ensures { λ r. ⌜ r ≡ runOf n w visits .sum ⌝ }
+    ensures { λ r. ⌜ r ≡ runOf n w (messages * n) .sum ⌝ }
 {
     let size = n as usize;
+    let visits = (messages as usize) * size;
     let mut units = opened(n, w);
     let mut text = [0u8; 16];
     let mut frame = [0u8; 117];
@@ -150,7 +154,7 @@ fn main() {
     if end < 5 {
         return;
     }
-    let Value::Is(n) = number(&buffer[..1]) else {
+    let Value::Is(n) = number(&buffer[0..1]) else {
         return;
     };
     let Value::Is(w) = number(&buffer[2..3]) else {
@@ -165,7 +169,6 @@ fn main() {
     if 8 < n {
         return;
     }
-    let visits = (messages as usize) * (n as usize);
-    io::print_decimal(1, run(n as u8, (w % 256) as u8, visits) as u64);
+    io::print_decimal(1, run(n as u8, (w % 256) as u8, messages) as u64);
     io::write_all(1, b"\n");
 }

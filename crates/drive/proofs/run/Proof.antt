@@ -1,8 +1,9 @@
 -- `run` meets its contract: after i visits it has the group of i visits.
 use borrow.Author.Needs.{needs}
+use native.Mathlib.Nat.{mul-le-mul-left}
 use native.Mathlib.Omega.{arith}
 use mathlib.Core.Path.{_≡_, refl, ap, _∙_}
-use Prim.Native.Nat.{_-_, _≤_}
+use Prim.Native.Nat.{_*_, _-_, _≤_}
 use lib.ListN.{length}
 use Rattle.drive.specs.Run.{Group, runOf}
 use Rattle.drive.proofs.Visits.{group-opened, visit-more}
@@ -10,12 +11,15 @@ use Rattle.drive.proofs.run.Statement.{statement}
 use Rattle.drive.proofs.run.Tie as tie
 
 abbrev Inv-loop : tie.InvT-loop
-Inv-loop n w visits size units₀ text₀ frame₀ sum₀ i₀ units text frame sum i =
+Inv-loop n w messages size visits units₀ text₀ frame₀ sum₀ i₀ units text frame sum i =
     ((i ≤ visits) × ((length units ≡ 8) × ((length text ≡ 16) × (length frame ≡ 117))))
     × (_≡_ {A = Group} (record { units = units; text = text; frame = frame; sum = sum }) (runOf n w i))
 
 abbrev μ-loop : tie.MeasureT-loop
-μ-loop n w visits size units₀ text₀ frame₀ sum₀ i₀ units text frame sum i = visits - i
+μ-loop n w messages size visits units₀ text₀ frame₀ sum₀ i₀ units text frame sum i = visits - i
+
+mul-visits : tie.Need-mul-visits Inv-loop μ-loop
+mul-visits c = record { fits = omega (arith, mul-le-mul-left (c .args .messages) (c .pre .1)) }
 
 opened-requires : tie.Need-opened-requires Inv-loop μ-loop
 opened-requires c κs = search needs
@@ -68,7 +72,9 @@ array-set-from-units : tie.Need-array-set-from-units Inv-loop μ-loop
 array-set-from-units c = search needs
 
 add-i : tie.Need-add-i Inv-loop μ-loop
-add-i c = search needs
+add-i c =
+    let start = c .before .before .before .before .before .before .before .before .before .before in
+    record { fits = omega (arith, mul-le-mul-left (start .args .messages) (start .pre .1)) }
 
 loop-less : tie.Need-loop-less Inv-loop μ-loop
 loop-less c = search needs
@@ -86,7 +92,7 @@ returns : tie.Need-returns Inv-loop μ-loop
 returns c =
     let b = c .before in
     let a = b .before .before .args in
-    let all : b .loop .i ≡ a .visits = omega arith in
+    let all : b .loop .i ≡ a .messages * a .n = omega arith in
     ap (λ (g : Group). g .sum) (b .loop .inv .1 ∙ ap (runOf (a .n) (a .w)) all)
 
 pub run-spec : {M : Type 1} → statement M
@@ -95,6 +101,7 @@ run-spec =
     (tie.spec
     Inv-loop
     μ-loop
+    mul-visits
     opened-requires
     loop-holds
     div-m

@@ -1,14 +1,12 @@
 -- Message i is lawful, the writer takes it where there is room, and the reader reads it back.
-use mathlib.Core.Bool.{true}
-use mathlib.Core.List.{List, []}
+use mathlib.Core.List.{List}
 use mathlib.Core.Option.{some}
-use mathlib.Core.Path.{_≡_, refl, sym, ap, subst, _∙_}
+use mathlib.Core.Path.{_≡_, refl, sym}
 use Prim.Native.Nat.{ℕ, zero, suc, _+_, _*_, _%_, _≤_, _<_}
 use native.Mathlib.Omega.{arith}
 use borrow.Author.Tests.{le-ltb}
 use lib.ListN.{length, take, replicate, length-replicate}
 use lib.Seq.{length-take-le}
-use Rattle.rules.specs.Maps.{between}
 use Rattle.rules.specs.Message.{Message, message, last, decode}
 use Rattle.rules.specs.Lawful.{Each, nil, cons, Lawful}
 use Rattle.rules.proofs.MapsLaws.{is-between}

@@ -1,5 +1,5 @@
 -- The messages that are written and read back, and the sums of what is read.
-use Prim.Native.Nat.{ℕ, zero, suc, _+_, _*_, _%_, _^_}
+use Prim.Native.Nat.{ℕ, zero, suc, _+_, _%_, _^_}
 use lib.ListN.{getD, take, replicate}
 use mathlib.Core.Option.{some}
 use Rattle.rules.specs.Message.{Message, message}

@@ -18,7 +18,8 @@ use Rattle.state.specs.declared.Core.{Core}
 use Rattle.state.specs.Soundness.{ownLow, soundOf}
 use Rattle.state.specs.View.{look}
 use Rattle.state.proofs.RoomLaws.{sound-shown}
-use Rattle.handing.specs.Handing.{Given, Gives, oldestPlace, lengthAt, withOrder, notTaken, takingOf, handed, notHanded, askingOf, slotFor, copyingOf}
+use Rattle.state.specs.Changed.{withOrder}
+use Rattle.handing.specs.Handing.{Given, Gives, oldestPlace, lengthAt, notTaken, takingOf, handed, notHanded, askingOf, slotFor, copyingOf}
 
 module _ {A : Type 0} where
   gives : (g : Given A) (r : A) (after : List ℕ) → g ≡ record { result = r; output = after } → Gives g r after

@@ -26,7 +26,8 @@ use Rattle.state.specs.Soundness.{soundOf}
 use Rattle.state.proofs.LookLaws.{shows-look}
 use Rattle.state.proofs.SoundLaws.{sound-look}
 use Rattle.state.proofs.RoomLaws.{sound-room}
-use Rattle.handing.specs.Handing.{oldestPlace, lengthAt, withOrder, takenAt, takingChecks, takingOf}
+use Rattle.state.specs.Changed.{withOrder}
+use Rattle.handing.specs.Handing.{oldestPlace, lengthAt, takenAt, takingChecks, takingOf}
 use Rattle.handing.specs.Meant.{takenMeans}
 use Rattle.handing.proofs.PartLaws.{length-part}
 

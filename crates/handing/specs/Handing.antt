@@ -9,10 +9,10 @@ use Rattle.rules.specs.Maps.{between, at}
 use Rattle.rules.specs.Message.{Request, request, encode}
 use Rattle.rules.specs.Calls.{Check, _⇒_, decide, written}
 use Rattle.tables.specs.Rows.{part}
-use Rattle.lists.specs.declared.Order.{Order}
 use Rattle.lists.specs.Order.{senderOf, entry, withoutFirst}
 use Rattle.framewrite.specs.Writing.{requestOf}
 use Rattle.state.specs.declared.Core.{Core}
+use Rattle.state.specs.Changed.{withOrder}
 use Rattle.state.specs.Soundness.{ownLow, soundOf}
 use Rattle.handing.specs.declared.Taken.{Taken}
 use Rattle.handing.specs.declared.Handed.{Handed}
@@ -40,24 +40,6 @@ oldestPlace c = entry (c .order) 0
 
 abbrev pub lengthAt : Core → ℕ → ℕ
 lengthAt c p = getD (c .lens) p 0
-
-abbrev pub withOrder : Core → Order → Core
-withOrder c o =
-    record {
-      me = c .me;
-      n = c .n;
-      w = c .w;
-      cid = c .cid;
-      seq = c .seq;
-      req = c .req;
-      heard = c .heard;
-      buf = c .buf;
-      al = c .al;
-      kept = c .kept;
-      seqs = c .seqs;
-      lens = c .lens;
-      order = o;
-    }
 
 abbrev pub notTaken : Core → ℕ → Taken
 notTaken c a = record { answer = a; src = 0; seq = 0; len = 0; core = c }

@@ -5,7 +5,7 @@ use Prim.Native.Nat.{ℕ, _-_, _*_}
 use lib.Dec.{eqb}
 use lib.ListN.{length}
 use Rattle.rules.specs.Maps.{between, at}
-use Rattle.rules.specs.Calls.{Check, _⇒_, decide}
+use Rattle.rules.specs.Calls.{Check, _⇒_}
 use Rattle.rules.specs.Looks.{Looked, showing}
 use Rattle.lists.specs.Order.{isOf, only, total, waitings}
 use Rattle.state.specs.declared.Core.{Core}
@@ -15,10 +15,7 @@ use Rattle.handing.specs.declared.looks.Look.{Look}
 abbrev pub lookOf : Looked → Look
 lookOf l = record { answer = l .answer; first = l .first; count = l .count }
 
--- the answer of the first check that refuses, and what is shown with an answer
-abbrev pub answerOf : List Check → ℕ
-answerOf checks = decide checks (λ a. a) 0
-
+-- what is shown with an answer
 unfoldable pub shownWith : ℕ → ℕ → ℕ → Looked
 shownWith a first count =
     cond (eqb a 0) (record { answer = 0; first = first; count = count }) (record { answer = a; first = 0; count = 0 })

@@ -1,7 +1,8 @@
 // Looks at a unit: each answers 1 where the unit is not sound and 5 where k is no unit, and then shows nothing.
 ghost use mathlib.Core.Path.{_≡_};
 ghost use Prim.Native.Nat.{_-_};
-ghost use Rattle.handing.specs.Looks.{lookOf, answerOf, shownWith, wholeChecks, unitChecks, toTakeIn, freePlacesIn, keptNumbersIn, missingIn, waitingIn};
+ghost use Rattle.rules.specs.Calls.{answerOf};
+ghost use Rattle.handing.specs.Looks.{lookOf, shownWith, wholeChecks, unitChecks, toTakeIn, freePlacesIn, keptNumbersIn, missingIn, waitingIn};
 use crate::is_unit;
 use lists;
 use state::Core;

@@ -1,16 +1,16 @@
 -- Each call by cases: a property of its result is shown for each refusal and for the step, once.
-use mathlib.Core.Bool.{Bool, true, false, cond, not, _||_}
+use mathlib.Core.Bool.{Bool, true, false, cond, not}
 use mathlib.Core.List.{List, [], _∷_}
 use mathlib.Core.Option.{Option, none, some}
 use mathlib.Core.Path.{_≡_, refl}
-use Prim.Native.Nat.{ℕ, _+_, _-_}
+use Prim.Native.Nat.{ℕ, _-_}
 use lib.ListN.{length}
 use Rattle.rules.specs.Maps.{among}
 use Rattle.rules.specs.Message.{Message, Request, Said, message, request, encode, decode}
-use Rattle.rules.specs.State.{Place, State, opened, closed}
+use Rattle.rules.specs.State.{State}
 use Rattle.rules.specs.Steps.{outgoing, noted, asking, resentFrom, resentTo, accepted, sent, withoutTaken}
 use Rattle.rules.specs.Sound.{sound}
-use Rattle.rules.specs.Calls.{Check, _⇒_, decide, Result, refusal, written, Opened, openChecks, opening, sendChecks, send, dataChecks, arriveData, requestChecks, arriveRequest, arriveSaid, arrive, makeChecks, makeRequest, copyChecks, copy, oldest, takeChecks, take}
+use Rattle.rules.specs.Calls.{Check, _⇒_, decide, Result, refusal, written, sendChecks, send, dataChecks, arriveData, requestChecks, arriveRequest, arriveSaid, arrive, makeChecks, makeRequest, copyChecks, copy, oldest, takeChecks, take}
 
 -- no test holds
 abbrev pub Passed : List Check → Type 0

@@ -15,6 +15,7 @@ pub mod SumsLaws
 pub mod SlotsLaws
 pub mod ChecksLaws
 pub mod CallCases
+pub mod DecideLaws
 pub mod Demand1Laws
 pub mod AcceptedLaws
 pub mod RequestLaws

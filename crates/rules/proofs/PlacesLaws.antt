@@ -1,5 +1,5 @@
 -- Counting over the places of a list, which is blind to where in the list a place stands.
-use mathlib.Core.Bool.{Bool, true, false, cond, not, _&&_, false≢true, Bool·not-not}
+use mathlib.Core.Bool.{Bool, true, false, cond, not, _&&_, Bool·not-not}
 use mathlib.Core.List.{List, [], _∷_, _++_, tail, nil≢cons, head-eq-of-cons-eq, List·Memᴰ, List·Memᴰ·head, List·Memᴰ·tail}
 use mathlib.Core.Path.{_≡_, refl, sym, ap, subst, _∙_, fun-ext}
 use Prim.Native.Nat.{ℕ, _+_, _≤_}

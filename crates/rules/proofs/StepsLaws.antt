@@ -1,14 +1,13 @@
 -- Settling by principles: what each pre-acknowledgement and each confirmation keeps, the loops keep.
 use mathlib.Core.Bool.{Bool, true, false, cond}
 use mathlib.Core.Logic.{_≢_}
-use mathlib.Core.List.{List, [], _∷_, _++_, tail, head-eq-of-cons-eq, tail-eq-of-cons-eq, cons≢nil}
+use mathlib.Core.List.{List, [], _∷_, _++_, tail, head-eq-of-cons-eq, cons≢nil}
 use mathlib.Core.Path.{_≡_, refl, sym, ap, subst, _∙_}
 use Prim.Native.Nat.{ℕ, zero, suc, _+_, _≤_, _<_}
 use native.Mathlib.Omega.{arith}
-use lib.Dec.{eqb, ltb}
-use lib.ListN.{length}
+use lib.Dec.{eqb}
 use Rattle.rules.specs.State.{Place, State, minAL, minPAL, from}
-use Rattle.rules.specs.Steps.{withoutOldest, withLists, preacked, preackWhile, preackOf, preackTo, moved, confirmWhile, confirm}
+use Rattle.rules.specs.Steps.{withoutOldest, preacked, preackWhile, preackOf, preackTo, moved, confirmWhile, confirm}
 use Rattle.rules.proofs.MapsLaws.{Lt?, lt, ge, lt?, Eq?, same, other, eq?}
 
 -- ---- the messages of one sender

@@ -1,13 +1,13 @@
 -- The six calls (01, "Answer numbers"): the checks of each in 01's order, its answer, next state, numbers and output.
-use mathlib.Core.Bool.{Bool, true, false, cond, not, _&&_, _||_}
+use mathlib.Core.Bool.{Bool, cond, not, _&&_, _||_}
 use mathlib.Core.List.{List, [], _∷_, _++_}
 use mathlib.Core.Option.{Option, none, some}
-use Prim.Native.Nat.{ℕ, zero, suc, _+_, _-_, _*_}
+use Prim.Native.Nat.{ℕ, _+_, _-_, _*_}
 use lib.Dec.{eqb, leb, ltb}
 use lib.ListN.{length, getD, drop, replicate}
 use Rattle.rules.specs.Maps.{among, between, at, every}
 use Rattle.rules.specs.Message.{Message, Request, Said, message, request, encode, decode, last}
-use Rattle.rules.specs.State.{Place, State, minAL, taken, from, places, opened, closed}
+use Rattle.rules.specs.State.{Place, State, taken, from, places, opened, closed}
 use Rattle.rules.specs.Steps.{maySend, outgoing, known, noted, missingFrom, missingTo, asking, isKept, resentFrom, resentTo, accepted, sent, withoutTaken}
 use Rattle.rules.specs.Sound.{rangesFit, sound}
 
@@ -24,6 +24,10 @@ t ⇒ a = record { holds = t; answer = a }
 abbrev pub decide : {A : Type 0} → List Check → (ℕ → A) → A → A
 decide [] refused done = done
 decide (c ∷ l) refused done = cond (c .holds) (refused (c .answer)) (decide l refused done)
+
+-- the answer of the first check that holds, 0 where none does
+abbrev pub answerOf : List Check → ℕ
+answerOf l = decide l (λ a. a) 0
 
 -- what a call gives: its answer, the numbers handed back, the next state, and the whole lent output
 pub record Result : Type 0 where

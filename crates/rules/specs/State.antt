@@ -1,9 +1,9 @@
 -- What a unit holds (01, "What a unit holds"), at opening and when closed.
-use mathlib.Core.Bool.{Bool, true, false, cond}
+use mathlib.Core.Bool.{cond}
 use mathlib.Core.List.{List, [], _∷_, _++_}
 use Prim.Native.Nat.{ℕ, _-_, _*_}
 use lib.Dec.{eqb}
-use lib.ListN.{length, take}
+use lib.ListN.{length}
 use Rattle.rules.specs.Maps.{at, least, units}
 
 -- A taken place, with the message in it: each sender has 4W places, `slot` counts them from 0.

@@ -1,13 +1,13 @@
 -- The state of the rules that a unit's numbers and arrays show: acks has eight numbers for each place, bytes 48 bytes
 -- of data for each place, frames 117 bytes for each kept frame.
-use mathlib.Core.Bool.{Bool, cond}
+use mathlib.Core.Bool.{cond}
 use mathlib.Core.List.{List, [], map}
 use Prim.Native.Nat.{ℕ, _-_, _*_}
 use lib.Dec.{leb, ltb}
 use lib.ListN.{getD}
 use Rattle.rules.specs.Maps.{at, least, units}
 use Rattle.rules.specs.State.{Place, State}
-use Rattle.tables.specs.Rows.{part, rowOf, grid}
+use Rattle.tables.specs.Rows.{part, grid}
 use Rattle.lists.specs.Order.{senderOf, slotOf, confirmeds, ordereds, waitings}
 use Rattle.state.specs.declared.Core.{Core}
 

@@ -39,7 +39,7 @@ use Rattle.steps.specs.Means.{arrivedAs}
 use Rattle.steps.proofs.AckLaws.{part-eight}
 use Rattle.steps.proofs.ChecksLook.{OfGroup, group-look, not-foreign}
 use Rattle.steps.proofs.DataLook.{unit-checks, noted-look}
-use Rattle.steps.proofs.DecideLaws.{decide-answer, decide-map}
+use Rattle.rules.proofs.DecideLaws.{decide-answer, decide-map}
 use Rattle.steps.proofs.PlaceLook.{Taking, taking}
 
 module _ (c : Core) (acks bytes frames : List ℕ) (Z : Sized c acks bytes) (p : Message) (limits : Limits p) where

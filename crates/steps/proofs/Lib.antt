@@ -4,7 +4,6 @@ pub mod ArrivalMeans
 pub mod ChecksLook
 pub mod DataLook
 pub mod DataMeans
-pub mod DecideLaws
 pub mod Determined
 pub mod PassedLaws
 pub mod PlaceLook

@@ -1,15 +1,15 @@
 -- What an arrival or a send with the answer 0 has passed.
-use mathlib.Core.Bool.{Bool, true, false}
+use mathlib.Core.Bool.{true, false}
 use mathlib.Core.List.{List}
 use mathlib.Core.Option.{Option, none, some}
-use mathlib.Core.Path.{_≡_, refl, sym, ap, subst}
+use mathlib.Core.Path.{_≡_, refl, sym, subst}
 use Prim.Native.Nat.{ℕ, _≤_, _<_}
 use native.Mathlib.Omega.{arith}
 use lib.Dec.{eqb, ltb}
 use borrow.Author.Tests.{ltb-false, leb-false}
 use Rattle.rules.specs.Maps.{between, all, at}
 use Rattle.rules.specs.Message.{Said, message, request, decode}
-use Rattle.rules.specs.Calls.{Check}
+use Rattle.rules.specs.Calls.{Check, answerOf}
 use Rattle.rules.proofs.MapsLaws.{and-right, between-low, between-high}
 use Rattle.rules.proofs.CallsLaws.{Passed, decide-cases}
 use Rattle.rules.proofs.ChecksLaws.{or-left, or-right, answersOf, refused-above}
@@ -17,7 +17,7 @@ use Rattle.rules.proofs.LimitsLaws.{decode-limits}
 use Rattle.state.specs.declared.Core.{Core}
 use Rattle.frame.specs.declared.Frame.{Frame}
 use Rattle.frame.specs.Frame.{frameOf}
-use Rattle.steps.specs.Checks.{FromUnit, answerOf, ofGroup, asksWrongly, requestChecks, sendChecks}
+use Rattle.steps.specs.Checks.{FromUnit, ofGroup, asksWrongly, requestChecks, sendChecks}
 
 pub passed-all : (l : List Check) → all (λ x. ltb 0 x) (answersOf l) ≡ true → answerOf l ≡ 0 → Passed l
 passed-all l some-number =

@@ -7,7 +7,6 @@ use native.Mathlib.Nat.{mul-le-mul}
 use native.Mathlib.Omega.{arith}
 use Rattle.rules.proofs.MapsLaws.{and-left, and-right}
 use Rattle.rules.proofs.SoundLaws.{Ranges, rangesFit-facts}
-use Rattle.rules.specs.Sound.{rangesFit}
 use Rattle.rules.proofs.SlotsLaws.{firstFree-le}
 use Rattle.lists.specs.Order.{slotsIn, takens, freeOf}
 use Rattle.lists.specs.declared.Order.{Order}

@@ -24,7 +24,7 @@ use Rattle.steps.specs.Checks.{ofGroup, namesOther, asksWrongly, resendF
 use Rattle.steps.specs.Means.{arrivedAs}
 use Rattle.steps.proofs.AckLaws.{at-eight}
 use Rattle.steps.proofs.ChecksLook.{group-look, low-look}
-use Rattle.steps.proofs.DecideLaws.{decide-answer, decide-map}
+use Rattle.rules.proofs.DecideLaws.{decide-answer, decide-map}
 
 module _ (c : Core) (acks bytes frames : List ℕ) (r : Request) where
   abbrev s : State

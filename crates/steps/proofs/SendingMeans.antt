@@ -41,7 +41,7 @@ use Rattle.steps.specs.Sending.{freePlaces, frameLength, refusedSend, ow
 use Rattle.steps.specs.Means.{Shaped, ownFrame, sentAs}
 use Rattle.steps.proofs.AckLaws.{part-units, take-units}
 use Rattle.steps.proofs.ChecksLook.{full-look, low-look}
-use Rattle.steps.proofs.DecideLaws.{decide-answer, decide-map}
+use Rattle.rules.proofs.DecideLaws.{decide-answer, decide-map}
 use Rattle.steps.proofs.PlaceLook.{Taking, taking}
 
 -- the least of a row, which is the first of a table

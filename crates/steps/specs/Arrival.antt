@@ -7,10 +7,11 @@ use lib.Dec.{eqb}
 use lib.ListN.{set, replicate}
 use Rattle.rules.specs.Maps.{among}
 use Rattle.rules.specs.Message.{Said}
-use Rattle.rules.specs.Calls.{decide}
+use Rattle.rules.specs.Calls.{decide, answerOf}
 use Rattle.tables.specs.Rows.{raised}
 use Rattle.lists.specs.Order.{freeOf}
 use Rattle.state.specs.declared.Core.{Core}
+use Rattle.state.specs.Changed.{withHeard}
 use Rattle.state.specs.Soundness.{soundOf}
 use Rattle.frame.specs.declared.Frame.{Frame}
 use Rattle.frame.specs.Frame.{frameOf}
@@ -18,7 +19,7 @@ use Rattle.store.specs.declared.Accepting.{Accepting}
 use Rattle.store.specs.declared.Next.{Next}
 use Rattle.store.specs.Store.{storedOf}
 use Rattle.steps.specs.declared.Arrival.{Arrival}
-use Rattle.steps.specs.Checks.{answerOf, groupChecks, unitChecks, requestChecks, resendFrom}
+use Rattle.steps.specs.Checks.{groupChecks, unitChecks, requestChecks, resendFrom}
 
 -- an arrival with this answer that stores nothing
 abbrev pub passing : ℕ → ℕ → ℕ → Core → Arrival
@@ -32,24 +33,6 @@ passing answer first last c =
       gone = 0;
       ack = replicate 8 0;
       core = c;
-    }
-
-abbrev pub withHeard : Core → List ℕ → Core
-withHeard c heard =
-    record {
-      me = c .me;
-      n = c .n;
-      w = c .w;
-      cid = c .cid;
-      seq = c .seq;
-      req = c .req;
-      heard = heard;
-      buf = c .buf;
-      al = c .al;
-      kept = c .kept;
-      seqs = c .seqs;
-      lens = c .lens;
-      order = c .order;
     }
 
 -- the numbers that f shows to be missing are noted

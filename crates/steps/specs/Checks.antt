@@ -1,12 +1,12 @@
 -- The checks of an arrival and of a send on a unit's numbers, after that of soundness, in 01's order.
-use mathlib.Core.Bool.{Bool, true, cond, not, _&&_, _||_}
+use mathlib.Core.Bool.{Bool, not, _&&_, _||_}
 use mathlib.Core.List.{List, [], _∷_}
 use Prim.Native.Nat.{ℕ, _+_, _*_, _/_, _≤_, min, max}
 use lib.Dec.{eqb, leb, ltb}
 use lib.ListN.{length}
 use Rattle.rules.specs.Maps.{between, at, least}
 use Rattle.rules.specs.Message.{last}
-use Rattle.rules.specs.Calls.{Check, _⇒_, decide}
+use Rattle.rules.specs.Calls.{Check, _⇒_}
 use Rattle.tables.specs.Rows.{belowBut, columnOf}
 use Rattle.lists.specs.Order.{isOf, only, takens}
 use Rattle.state.specs.declared.Core.{Core}
@@ -24,10 +24,6 @@ pub record Ranged (c : Core) : Type 0 where
 pub record FromUnit (c : Core) (f : Frame) : Type 0 where
   pub first : 1 ≤ f .src
   pub unit : f .src ≤ c .n
-
--- the answer of the first check that holds, 0 where none does
-abbrev pub answerOf : List Check → ℕ
-answerOf l = decide l (λ a. a) 0
 
 -- the frame has n ACKs, and its sender is a unit
 unfoldable pub ofGroup : Core → Frame → Bool

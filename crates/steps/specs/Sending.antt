@@ -1,5 +1,5 @@
 -- What a send gives: its answer, the unit's next numbers, and what is to be written.
-use mathlib.Core.Bool.{Bool, cond}
+use mathlib.Core.Bool.{cond}
 use mathlib.Core.List.{List}
 use Prim.Native.Nat.{ℕ, _+_, _-_, _*_}
 use lib.Dec.{eqb}
@@ -10,7 +10,8 @@ use Rattle.store.specs.declared.Accepting.{Accepting}
 use Rattle.store.specs.declared.Next.{Next}
 use Rattle.store.specs.Store.{keptSlot, keepingOf, storedOf}
 use Rattle.steps.specs.declared.Sending.{Sending}
-use Rattle.steps.specs.Checks.{answerOf, sendChecks}
+use Rattle.rules.specs.Calls.{answerOf}
+use Rattle.steps.specs.Checks.{sendChecks}
 use Rattle.steps.specs.Arrival.{freePlace}
 
 -- BUF: the free places

@@ -7,9 +7,9 @@ use state;
 use state::Core;
 use tables;
 ghost use mathlib.Core.Path.{_≡_};
-ghost use Prim.Native.Nat.{_≤_};
 ghost use Rattle.steps.specs.Arrival.{requestArrival};
-ghost use Rattle.steps.specs.Checks.{answerOf, namesOther, asksWrongly, resendFrom, requestChecks};
+ghost use Rattle.rules.specs.Calls.{answerOf};
+ghost use Rattle.steps.specs.Checks.{namesOther, asksWrongly, resendFrom, requestChecks};
 
 fn names_other(c: Core, f: Frame) -> bool
     ensures { λ r. ⌜ r ≡ namesOther c f ⌝ }

@@ -13,7 +13,8 @@ ghost use mathlib.Core.Path.{_≡_};
 ghost use Prim.Native.Nat.{_<_};
 ghost use Rattle.rules.specs.Maps.{among};
 ghost use Rattle.steps.specs.Arrival.{notedOf, storing, unitArrival, dataArrival};
-ghost use Rattle.steps.specs.Checks.{Ranged, FromUnit, answerOf, impossible, turnChecks, unitChecks};
+ghost use Rattle.rules.specs.Calls.{answerOf};
+ghost use Rattle.steps.specs.Checks.{Ranged, FromUnit, impossible, turnChecks, unitChecks};
 
 // Whether f says what no unit of the group can have said.
 fn cannot_be(c: Core, f: Frame) -> bool

@@ -10,7 +10,8 @@ use store::Accepting;
 use tables;
 ghost use mathlib.Core.Path.{_≡_};
 ghost use Prim.Native.Nat.{_≤_};
-ghost use Rattle.steps.specs.Checks.{Ranged, answerOf, windowOpen, sendChecks};
+ghost use Rattle.rules.specs.Calls.{answerOf};
+ghost use Rattle.steps.specs.Checks.{Ranged, windowOpen, sendChecks};
 ghost use Rattle.steps.specs.Sending.{freePlaces, sendingOwn, sendingChecked};
 
 // SEQ is inside the window; the sum may pass 32 bits.

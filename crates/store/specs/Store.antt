@@ -7,6 +7,7 @@ use Rattle.tables.specs.Rows.{withColumn}
 use Rattle.lists.specs.declared.Order.{Order}
 use Rattle.lists.specs.Order.{senderOf, withLast}
 use Rattle.lists.specs.Settle as settling
+use Rattle.state.specs.Changed.{withOrder}
 use Rattle.state.specs.declared.Core.{Core}
 use Rattle.state.specs.Soundness.{ownLow}
 use Rattle.store.specs.declared.Accepting.{Accepting}
@@ -93,25 +94,6 @@ withSeq c seq kept =
       seqs = c .seqs;
       lens = c .lens;
       order = c .order;
-    }
-
--- the order of the places
-abbrev pub withOrder : Core → Order → Core
-withOrder c order =
-    record {
-      me = c .me;
-      n = c .n;
-      w = c .w;
-      cid = c .cid;
-      seq = c .seq;
-      req = c .req;
-      heard = c .heard;
-      buf = c .buf;
-      al = c .al;
-      kept = c .kept;
-      seqs = c .seqs;
-      lens = c .lens;
-      order = order;
     }
 
 -- ---- accept, keep, settle

@@ -12,7 +12,7 @@ use Rattle.rules.specs.Maps.{among, at}
 use Rattle.rules.specs.Message.{Said, decode}
 use Rattle.rules.specs.Sound.{sound}
 use Rattle.rules.specs.Calls as rules
-use Rattle.rules.specs.Calls.{Result, written, Call, call, sends, hears, asks, copies, takes}
+use Rattle.rules.specs.Calls.{Result, written, Call, call, sends, hears, asks, copies, takes, answerOf}
 use Rattle.rules.specs.Demand1.{orderOf, noting}
 use Rattle.rules.proofs.CallsLaws.{decide-cases}
 use Rattle.rules.proofs.CallSound.{one-unsound}
@@ -28,8 +28,9 @@ use Rattle.handing.specs.declared.Taken as handing
 use Rattle.handing.specs.Handing.{Given, oldestPlace, lengthAt, notTaken, takenAt, takingChecks, takingOf}
 use Rattle.steps.specs.declared.Arrival.{Arrival}
 use Rattle.steps.specs.declared.Sending.{Sending}
-use Rattle.steps.specs.Checks.{answerOf, groupChecks, unitChecks, requestChecks, resendFrom}
-use Rattle.steps.specs.Arrival.{withHeard, notedOf, passing, storing, unitArrival, dataArrival, requestArrival, frameArrival, arrivalOf}
+use Rattle.steps.specs.Checks.{groupChecks, unitChecks, requestChecks, resendFrom}
+use Rattle.state.specs.Changed.{withHeard}
+use Rattle.steps.specs.Arrival.{notedOf, passing, storing, unitArrival, dataArrival, requestArrival, frameArrival, arrivalOf}
 use Rattle.steps.specs.Sending.{sendingOf}
 use Rattle.unit.specs.declared.Unit.{Unit}
 use Rattle.unit.specs.declared.Opened.{Opened}
@@ -39,7 +40,7 @@ use Rattle.unit.specs.declared.Taken.{Taken}
 use Rattle.unit.specs.View.{Outcome, view, meant, ofSent, ofArrived, ofHanded, ofTaken}
 use Rattle.unit.specs.Exact.{withCore, doneSend, refusedSend, sentBy, sentOf, arrivedUnit, arrivedBy, arrivedOf, takenOf}
 use Rattle.unit.specs.Contracts.{Opens, Sends, Arrives, Asks, Copies, Takes}
-use Rattle.unit.specs.Demand1.{Stays, Refusing, Demand1}
+use Rattle.unit.specs.Demand1.{Stays, Demand1}
 
 -- answer, numbers and output are those of the rules; the unit is the call's own part
 demand1-with : (u : Unit) (c : Call) (x : Outcome) → meant x ≡ call (view u) c → (x .answer ≢ 0 → Stays u c (x .answer) (x .next)) → Demand1 u c x

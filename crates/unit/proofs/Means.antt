@@ -1,16 +1,13 @@
 -- A result that is exact means the call of the rules and leaves a sound unit sound: so it meets the whole contract.
 use mathlib.Core.Bool.{Bool, true, false, cond}
-use mathlib.Core.List.{List, [], _∷_}
+use mathlib.Core.List.{List}
 use mathlib.Core.Logic.{_≢_}
 use mathlib.Core.Path.{_≡_, refl, sym, ap, _∙_, subst}
 use Prim.Native.Nat.{ℕ}
 use lib.Dec.{eqb}
 use lib.ListN.{length, replicate}
-use Rattle.rules.specs.Maps.{at}
-use Rattle.rules.specs.Message.{decode}
-use Rattle.rules.specs.State.{State}
 use Rattle.rules.specs.Sound.{sound}
-use Rattle.rules.specs.Calls.{Result, refusal, written, Call, call, sends, hears, takes}
+use Rattle.rules.specs.Calls.{Result, written, Call, call, sends, hears, takes}
 use Rattle.rules.specs.Calls as rules
 use Rattle.rules.specs.Looks.{Looked}
 use Rattle.rules.proofs.CallSound.{call-sound}
@@ -28,12 +25,9 @@ use Rattle.handing.specs.Looks.{lookOf}
 use Rattle.handing.proofs.TakingMeans.{taking-means}
 use Rattle.handing.proofs.AskingMeans.{asking-means}
 use Rattle.handing.proofs.CopyingMeans.{copying-means}
-use Rattle.frame.specs.Frame.{payloadOf}
-use Rattle.store.specs.Arrays.{withoutFrames}
 use Rattle.steps.specs.declared.Sending.{Sending}
-use Rattle.steps.specs.Arrival.{arrivalOf}
 use Rattle.steps.specs.Sending.{sendingOf}
-use Rattle.steps.specs.Means.{Shaped, arrivedAs, ownFrame, sentAs}
+use Rattle.steps.specs.Means.{Shaped, arrivedAs, sentAs}
 use Rattle.steps.proofs.ArrivalMeans.{arrival-means}
 use Rattle.steps.proofs.SendingMeans.{sending-means}
 use Rattle.unit.specs.declared.Unit.{Unit}
@@ -41,8 +35,8 @@ use Rattle.unit.specs.declared.Opened.{Opened}
 use Rattle.unit.specs.declared.Sent.{Sent}
 use Rattle.unit.specs.declared.Arrived.{Arrived}
 use Rattle.unit.specs.declared.Taken.{Taken}
-use Rattle.unit.specs.View.{Outcome, view, openedMeans, meant, ofSent, ofArrived, ofHanded, ofTaken}
-use Rattle.unit.specs.Exact.{emptyWith, withCore, storedWith, openedOf, doneSend, refusedSend, sentUnit, sentBy, sentOf, arrivedUnit, arrivedBy, arrivedOf, takenOf}
+use Rattle.unit.specs.View.{Outcome, view, meant, ofSent, ofArrived, ofTaken}
+use Rattle.unit.specs.Exact.{emptyWith, openedOf, doneSend, refusedSend, sentUnit, sentBy, sentOf, arrivedUnit, arrivedBy, arrivedOf, takenOf}
 use Rattle.unit.specs.Contracts.{SoundAfter, Opens, Sends, Arrives, Asks, Copies, Takes, Looks, Tests}
 
 -- what means a call on a sound unit leaves a sound one
@@ -105,8 +99,6 @@ module _ (u : Unit) (Z : Shaped (u .core) (u .acks) (u .bytes) (u .frames)) wher
   pub arrives-bytes : (l : List ℕ) (r : Arrived) → r ≡ arrivedOf u l → Arrives u l r
   unfolding arrivedOf arrivedBy arrivedUnit arrivedAs
   arrives-bytes l r e =
-      let a = arrivalOf (u .core) (u .acks) (decode l) in
-      let text = payloadOf (decode l) in
       let m : meant (ofArrived r) ≡ rules.arrive (view u) l = rw (e, view-either) (arrival-means (u .core) (u .acks) (u .bytes) (u .frames) (Z .sized) l) in
       record { exact = e; means = m; sound = sound-after u (hears l) (ofArrived r) m }
 

@@ -1,6 +1,6 @@
 -- Demand 1 of a unit: what each call may answer, and what a refusal leaves as it was, of the unit's whole value.
 use mathlib.Core.Bool.{true, false}
-use mathlib.Core.List.{List, _∷_}
+use mathlib.Core.List.{_∷_}
 use mathlib.Core.Logic.{_≢_}
 use mathlib.Core.Path.{_≡_}
 use Prim.Native.Nat.{ℕ}
@@ -8,7 +8,7 @@ use lib.ListN.{replicate}
 use Rattle.rules.specs.Maps.{among}
 use Rattle.rules.specs.Calls.{Call}
 use Rattle.rules.specs.Demand1.{orderOf, lent, handed, noting}
-use Rattle.steps.specs.Arrival.{withHeard}
+use Rattle.state.specs.Changed.{withHeard}
 use Rattle.unit.specs.declared.Unit.{Unit}
 use Rattle.unit.specs.View.{Outcome}
 use Rattle.unit.specs.Exact.{withCore}

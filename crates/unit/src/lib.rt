@@ -56,22 +56,26 @@ pub struct Taken {
 }
 
 impl Unit {
-    // The fewest and the most units of a group, the narrowest and the widest window, the most bytes of data.
+    // Units of a group.
     pub const LEAST_UNITS: usize = 2;
 
     pub const MOST_UNITS: usize = 8;
 
+    // The window.
     pub const LEAST_WINDOW: usize = 2;
 
     pub const MOST_WINDOW: usize = 4;
 
+    // Bytes of data; no data is allowed.
     pub const MOST_DATA: usize = 48;
-    // What follows from them: the most places, and the most bytes of a frame.
+
+    // 4W places for each sender, at the widest.
     pub const PLACES: usize = 4 * Self::MOST_WINDOW * Self::MOST_UNITS;
 
+    // Bytes of a frame.
     pub const MOST_FRAME: usize = 37 + 4 * Self::MOST_UNITS + Self::MOST_DATA;
 
-    // Opens a unit: 2 outside the ranges.
+    // Opens a unit. Refusal: 2.
     pub fn open(o: Opening) -> Opened
         ensures { λ r. ⌜ Opens o r ⌝ }
     {
@@ -88,7 +92,7 @@ impl Unit {
         }
     }
 
-    // Sends the data: the frame stands at the front of the output. 1, 13, 14, 15, 12, 16.
+    // Sends the data: the frame stands at the front of the output. Refusals: 1, 13, 14, 15, 12, 16.
     pub fn send(mut self, text: &[u8], out: &mut [u8]) -> Sent
         ensures { λ r. ⌜ Sends self (now (text .entry)) (now (out .entry)) r (now (out .exit)) ⌝ }
     {
@@ -120,7 +124,7 @@ impl Unit {
         }
     }
 
-    // A frame of either kind arrives.
+    // A frame of either kind arrives. Refusals, data: 1, 3, 4, 5, 6, 7, 8, 9, 10, 11, 12; request: 1, 3, 4, 5, 6, 17, 7, 18.
     pub fn arrive(mut self, s: &[u8]) -> Arrived
         ensures { λ r. ⌜ Arrives self (now (s .entry)) r ⌝ }
     {
@@ -144,7 +148,7 @@ impl Unit {
         }
     }
 
-    // Makes the request for what is missing of unit k. 1, 5, 18, 16.
+    // Makes the request for what is missing of unit k. Refusals: 1, 5, 18, 16.
     pub fn request(self, k: u8, out: &mut [u8]) -> Handed
         ensures { λ r. ⌜ Asks self k (now (out .entry)) r (now (out .exit)) ⌝ }
     {
@@ -152,24 +156,26 @@ impl Unit {
         handing::asking(c, &self.acks, k, out)
     }
 
-    // Copies out the kept frame of number x, exactly as first sent. 1, 18, 16.
+    // Copies out the kept frame of number x, exactly as first sent. Refusals: 1, 18, 16.
     pub fn copy(self, x: u32, out: &mut [u8]) -> Handed
         ensures { λ r. ⌜ Copies self x (now (out .entry)) r (now (out .exit)) ⌝ }
     {
         let c = self.core;
+        // a copy, since two arrays of one unit cannot be lent to one call
         let acks = self.acks;
         handing::copying(c, &acks, &self.frames, x, out)
     }
 
-    // Takes the oldest confirmed message: its data stand at the front of the output. 1, 18, 16.
+    // Takes the oldest confirmed message: its data stand at the front of the output. Refusals: 1, 18, 16.
     pub fn take(mut self, out: &mut [u8]) -> Taken
         ensures { λ r. ⌜ Takes self (now (out .entry)) r (now (out .exit)) ⌝ }
     {
         let c = self.core;
+        // a copy, as in `copy`
         let acks = self.acks;
         let t = handing::taking(c, &acks, &self.bytes, out);
-        let next = t.core;
-        self.core = next;
+        let rest = t.core;
+        self.core = rest;
         Taken {
             answer: t.answer,
             src: t.src,

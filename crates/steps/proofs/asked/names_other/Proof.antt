@@ -1,5 +1,5 @@
 -- `names_other` meets its contract.
-use borrow.Author.Tests.{eq-eqb, ne-eqb, le-leb, lt-leb}
+use borrow.Author.Tests.{le-leb, lt-leb}
 use Rattle.steps.specs.Checks.{namesOther}
 use Rattle.rules.specs.Maps.{between}
 use borrow.Author.Needs.{needs}

@@ -1,5 +1,4 @@
 -- `arrived` meets its contract.
-use native.Mathlib.Omega.{arith}
 use borrow.Author.Tests.{eq-eqb, ne-eqb, not-true, not-false}
 use Rattle.steps.specs.Arrival.{dataArrival}
 use Rattle.steps.proofs.PassedLaws.{from-unit}

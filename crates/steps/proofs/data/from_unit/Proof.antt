@@ -1,5 +1,4 @@
 -- `from_unit` meets its contract.
-use native.Mathlib.Omega.{arith}
 use borrow.Author.Tests.{eq-eqb, ne-eqb}
 use Rattle.steps.specs.Arrival.{unitArrival}
 use borrow.Author.Needs.{needs}

@@ -1,6 +1,5 @@
 -- `notes` meets its contract.
 use borrow.Author.Tests.{eq-eqb, ne-eqb}
-use borrow.Author.Needs.{needs}
 use Rattle.steps.proofs.data.notes.Statement.{statement}
 use Rattle.steps.proofs.data.notes.Tie as tie
 

@@ -1,5 +1,4 @@
 -- `checked` meets its contract.
-use native.Mathlib.Omega.{arith}
 use borrow.Author.Tests.{eq-eqb, ne-eqb}
 use Rattle.steps.specs.Sending.{sendingChecked}
 use Rattle.steps.proofs.PassedLaws.{short-data}

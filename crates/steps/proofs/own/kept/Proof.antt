@@ -1,5 +1,4 @@
 -- `kept` meets its contract.
-use native.Mathlib.Omega.{arith}
 use Rattle.steps.specs.Sending.{sendingOwn, frameLength}
 use borrow.Author.Needs.{needs}
 use Rattle.steps.proofs.own.kept.Statement.{statement}

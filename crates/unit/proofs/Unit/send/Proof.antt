@@ -1,10 +1,11 @@
 -- The frame that is written is kept, and its message stored.
 use borrow.Author.Needs.{needs}
+use mathlib.Core.List.{List}
 use mathlib.Core.Path.{_≡_, sym, ap, _∙_}
 use Prim.Native.Nat.{ℕ, _+_, _*_, _≤_}
 use native.Mathlib.Omega.{arith}
-use lib.ListN.{length, take, length-take}
-use Rattle.rules.specs.Calls.{written}
+use lib.ListN.{length, take}
+use Rattle.store.specs.Arrays.{withoutFrames}
 use Rattle.steps.specs.declared.Sending.{Sending}
 use Rattle.steps.specs.Means.{ownFrame}
 use Rattle.unit.proofs.Means.{sends-data}
@@ -92,8 +93,13 @@ returns-2 c =
     let w = c .before .before .before .before .before .before .before .before .before .before .before .before .before .before .before .before in
     let u = start w .args .t1 in
     sends-data u (shaped u _ (start w .good .0 .1 .1)) _ _ _ _
-    (rw (c .settled .ensures, c .before .before .before .before .before .put-text .ensures, c .before .before .before .before .before .before .before .put-ack .ensures, c .before .before .before .before .before .before .before .before .before .drop-frames .ensures, c .before .before .before .before .before .before .before .before .before .before .before .put-frame .ensures)
-    (sent-done u _ _ _ (w .before .before .before .before .before .before .before .before .send .ensures) (w .before .before .before .before .before .before .if1 .left) _ _ _ (sym (own-length _ _ _ (most w))) (front w) (own-written _ _ _ (most w) _ (passed w) _ _ (w .write-data .ensures))))
+    (sent-done u _ _ _ (w .before .before .before .before .before .before .before .before .send .ensures) (w .before .before .before .before .before .before .if1 .left) _ _ (front w) (own-written _ _ _ (most w) _ (passed w) _ _ (w .write-data .ensures)) _ (sym (own-length _ _ _ (most w))) _
+    (record {
+      acks = c .before .before .before .before .before .before .before .put-ack .ensures;
+      bytes = c .before .before .before .before .before .put-text .ensures;
+      frames = c .before .before .before .before .before .before .before .before .before .drop-frames .ensures ∙ ap (λ (l : List ℕ). withoutFrames l (sending w .gone)) (c .before .before .before .before .before .before .before .before .before .before .before .put-frame .ensures);
+      core = c .settled .ensures;
+    }))
 
 pub send-spec : {M : Type 1} → statement M
 send-spec =

@@ -6,12 +6,11 @@ use Prim.Native.Nat.{ℕ}
 use native.Mathlib.Omega.{arith}
 use lib.Dec.{eqb, ltb}
 use borrow.Author.Tests.{ltb-true, ne-eqb}
 use Rattle.rules.specs.Maps.{all}
-use Rattle.rules.specs.Calls.{Check, decide}
+use Rattle.rules.specs.Calls.{Check, decide, answerOf}
 use Rattle.rules.proofs.MapsLaws.{and-left, and-right}
 use Rattle.rules.proofs.CallsLaws.{Passed, Refused, now, later}
 use Rattle.rules.proofs.ChecksLaws.{answersOf}
-use Rattle.steps.specs.Checks.{answerOf}
 
 -- where no check answers 0
 pub decide-answer : {A : Type 0} (refused : ℕ → A) (done : A) (l : List Check) → all (λ x. ltb 0 x) (answersOf l) ≡ true

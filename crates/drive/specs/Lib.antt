@@ -1,0 +1,2 @@
+-- What the contracts of a run say.
+pub mod Run

@@ -111,7 +111,7 @@ fn opened(n: u8, w: u8) -> [Unit; Unit::MOST_UNITS]
     units
 }
 
-// The unit of visit i, counted from 0: its sender is first, and the others follow in turn.
+// Where visit i is, both counted from 0: the visits of a message start at its sender and go round.
 fn unit_at(i: usize, n: usize) -> usize
     requires { ⌜ 1 ≤ n ⌝ }
     ensures { λ r. ⌜ (r ≡ unitAt n i) × (r < n) ⌝ }

@@ -52,7 +52,7 @@ copies() {
 stack() {
     local low=0 high=8192 middle
     while [ $((high - low)) -gt 8 ]; do
-        middle=$(((low + high) / 16 * 8))
+        middle=$(((low + high) / 2 & ~7))
         if (ulimit -s "$middle" && printf %s "$input" | $proved) >/dev/null 2>&1; then
             high=$middle
         else

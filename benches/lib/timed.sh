@@ -1,3 +1,4 @@
+# shellcheck shell=bash disable=SC2154
 # timed NAME INPUT COMMAND..: runs the command with INPUT on its standard input, and keeps in ${least[NAME]} the least
 # processor time, in milliseconds, of all its runs so far. $work/NAME has what it printed, $work/NAME.said its standard
 # error.

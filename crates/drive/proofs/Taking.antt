@@ -1,7 +1,6 @@
 -- Taking everything: a refusal ends it, and a message leaves one fewer to take.
-use mathlib.Core.Bool.{cond}
-use mathlib.Core.Logic.{_≢_}
 use mathlib.Core.List.{List}
+use mathlib.Core.Logic.{_≢_}
 use mathlib.Core.Path.{_≡_, refl, ap₂}
 use Prim.Native.Nat.{ℕ, zero, suc, _-_, _<_}
 use native.Mathlib.Omega.{arith}

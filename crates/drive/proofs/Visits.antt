@@ -5,7 +5,7 @@ use Prim.Native.Nat.{ℕ, zero, suc, _+_, _*_, _/_, _%_, _<_}
 use native.Mathlib.Omega.{arith}
 use lib.Dec.{eqb}
 use lib.ListN.{length, getD, set, replicate}
-use Rattle.handing.specs.Handing.{Given, Gives}
+use Rattle.handing.specs.Handing.{Gives}
 use Rattle.unit.specs.declared.Unit.{Unit}
 use Rattle.drive.specs.declared.Summed.{Summed}
 use Rattle.drive.specs.Run.{visitOf, unitOf, openedUnits, unitAt, Group, visitedAt, runOf}

@@ -1,12 +1,10 @@
 // A lossless group: everyone sends in turn, each frame arrives at all the others, and everything is taken.
 // Standard input: n, W and the number of messages, as `3 4 100`. Prints a sum over what was taken.
 ghost use mathlib.Core.Path.{_≡_};
-ghost use Prim.Native.Nat.{_+_, _*_, _<_, _≤_};
-ghost use lib.Dec.{eqb};
-ghost use lib.ListN.{length, replicate};
+ghost use Prim.Native.Nat.{_*_, _<_, _≤_};
+ghost use lib.ListN.{length};
 ghost use Rattle.handing.specs.Handing.{Gives};
-ghost use Rattle.unit.specs.Exact.{takenOf};
-ghost use Rattle.drive.specs.Run.{mixed, withBytes, withMessage, allTaken, visitOf, openedUnits, unitAt, runOf};
+ghost use Rattle.drive.specs.Run.{mixed, withBytes, withMessage, shown, visitOf, openedUnits, unitAt, runOf};
 use script::Value;
 use script::number;
 use state::Opening;
@@ -47,14 +45,14 @@ fn with_message(sum: u32, src: u8, seq: u32, len: usize, out: &[u8]) -> u32
     )
 }
 
-// The sum, continued with everything that the unit may show.
+// The sum, continued with everything that the unit may show: at most as many messages as it has places.
 fn all_taken(first: Unit, before: u32) -> Summed
-    ensures { λ r. ⌜ r ≡ allTaken 128 (takenOf first (replicate 16 0)) before ⌝ }
+    ensures { λ r. ⌜ r ≡ shown first before ⌝ }
 {
     let mut sum = before;
     let mut out = [0u8; 16];
     let mut t = first.take(&mut out);
-    let mut left: u8 = 128;
+    let mut left = Unit::PLACES;
     while 0 < left {
         if t.answer != 0 {
             left = 0;
@@ -85,7 +83,7 @@ fn visited(u: Unit, sends: bool, text: &[u8], frame: &mut [u8], len: usize, sum:
 }
 
 // Eight units, of which the first n are open.
-fn opened(n: u8, w: u8) -> [Unit; 8]
+fn opened(n: u8, w: u8) -> [Unit; Unit::MOST_UNITS]
     ensures { λ r. ⌜ r ≡ openedUnits n w 8 ⌝ }
 {
     let none = Unit::open(Opening {
@@ -96,7 +94,7 @@ fn opened(n: u8, w: u8) -> [Unit; 8]
         first: [1u32; 8],
     });
     let closed = none.unit;
-    let mut units = [closed; 8];
+    let mut units = [closed; Unit::MOST_UNITS];
     let mut k: u8 = 0;
     while k < 8 {
         let o = Unit::open(Opening {
@@ -113,7 +111,7 @@ fn opened(n: u8, w: u8) -> [Unit; 8]
     units
 }
 
-// The unit of visit i, counted from 0: its sender is first, and the others follow in turn.
+// Where visit i is, both counted from 0: the visits of a message start at its sender and go round.
 fn unit_at(i: usize, n: usize) -> usize
     requires { ⌜ 1 ≤ n ⌝ }
     ensures { λ r. ⌜ (r ≡ unitAt n i) × (r < n) ⌝ }
@@ -130,7 +128,7 @@ fn run(n: u8, w: u8, messages: u32) -> u32
     let visits = (messages as usize) * size;
     let mut units = opened(n, w);
     let mut text = [0u8; 16];
-    let mut frame = [0u8; 117];
+    let mut frame = [0u8; Unit::MOST_FRAME];
     let mut sum = 0;
     let mut i: usize = 0;
     while i < visits {

@@ -1,7 +1,7 @@
 -- `all_taken` meets its contract: the take at hand and all that may follow it give the whole sum.
 use borrow.Author.Needs.{needs}
 use native.Mathlib.Omega.{arith}
-use mathlib.Core.Path.{_≡_, refl, sym, ap, _∙_}
+use mathlib.Core.Path.{_≡_, refl, sym, _∙_}
 use lib.ListN.{length}
 use Rattle.handing.specs.Handing.{Given}
 use Rattle.unit.specs.declared.Taken.{Taken}

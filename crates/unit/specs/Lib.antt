@@ -1,0 +1,4 @@
+-- What the calls on a unit give, exactly, and what that means in the rules.
+pub mod Contracts
+pub mod Exact
+pub mod View

@@ -3,21 +3,21 @@ use mathlib.Core.Bool.{cond}
 use mathlib.Core.List.{List}
 use Prim.Native.Nat.{ℕ}
 use lib.Dec.{eqb}
-use lib.ListN.{length, take, replicate}
-use Rattle.rules.specs.Message.{message, encode, decode}
+use lib.ListN.{length, replicate}
+use Rattle.rules.specs.Message.{decode}
 use Rattle.rules.specs.Calls.{written}
 use Rattle.state.specs.declared.Core.{Core}
 use Rattle.state.specs.declared.Opening.{Opening}
 use Rattle.state.specs.declared.Opened as state
 use Rattle.state.specs.Opening as opening
 use Rattle.frame.specs.Frame.{payloadOf}
-use Rattle.framewrite.specs.Writing.{messageOf}
 use Rattle.store.specs.Arrays.{withAck, withText, withFrame, withoutFrames}
 use Rattle.store.specs.Store.{settledOf}
 use Rattle.steps.specs.declared.Arrival.{Arrival}
 use Rattle.steps.specs.declared.Sending.{Sending}
 use Rattle.steps.specs.Arrival.{arrivalOf}
 use Rattle.steps.specs.Sending.{sendingOf}
+use Rattle.steps.specs.Means.{ownFrame}
 use Rattle.handing.specs.declared.Taken as handing
 use Rattle.handing.specs.Handing.{Given, takingOf}
 use Rattle.unit.specs.declared.Unit.{Unit}
@@ -49,29 +49,26 @@ storedWith u c place ack text frames =
     let acks : List ℕ = withAck (u .acks) place ack in
     record { core = settledOf c acks; acks = acks; bytes = withText (u .bytes) place text; frames = frames }
 
--- the frame that carries the data d, with this BUF; its ACK is REQ
-unfoldable pub ownFrame : Core → ℕ → List ℕ → List ℕ
-ownFrame c buf d = encode (message (messageOf (c .cid) (c .me) (c .seq) (take (c .n) (c .req)) buf d))
-
 -- the frame is kept before the oldest are dropped
 unfoldable pub sentUnit : Unit → Sending → List ℕ → Unit
 sentUnit u s d =
     storedWith u (s .core) (s .place) (u .core .req) d
     (withoutFrames (withFrame (u .frames) (s .slot) (ownFrame (u .core) (s .buf) d)) (s .gone))
 
-abbrev pub notSent : Unit → ℕ → Sent
-notSent u a = record { answer = a; seq = 0; len = 0; unit = u }
-
--- the send s of the data d
-unfoldable pub sentBy : Unit → List ℕ → List ℕ → Sending → Given Sent
-sentBy u d out s =
+-- the send s of the data d, where it is done and where it is refused
+abbrev pub doneSend : Unit → List ℕ → List ℕ → Sending → Given Sent
+doneSend u d out s =
     let f : List ℕ = ownFrame (u .core) (s .buf) d in
-    cond (eqb (s .answer) 0)
-    (record {
+    record {
       result = record { answer = 0; seq = u .core .seq; len = length f; unit = sentUnit u s d };
       output = written out f;
-    })
-    (record { result = notSent u (s .answer); output = out })
+    }
+
+abbrev pub refusedSend : Unit → List ℕ → ℕ → Given Sent
+refusedSend u out a = record { result = record { answer = a; seq = 0; len = 0; unit = u }; output = out }
+
+unfoldable pub sentBy : Unit → List ℕ → List ℕ → Sending → Given Sent
+sentBy u d out s = cond (eqb (s .answer) 0) (doneSend u d out s) (refusedSend u out (s .answer))
 
 unfoldable pub sentOf : Unit → List ℕ → List ℕ → Given Sent
 sentOf u d out = sentBy u d out (sendingOf (u .core) (u .acks) (length d) (length out))

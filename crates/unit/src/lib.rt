@@ -153,7 +153,8 @@ impl Unit {
         ensures { λ r. ⌜ Copies self x (now (out .entry)) r (now (out .exit)) ⌝ }
     {
         let c = self.core;
-        handing::copying(c, &self.acks, &self.frames, x, out)
+        let acks = self.acks;
+        handing::copying(c, &acks, &self.frames, x, out)
     }
 
     // Takes the oldest confirmed message: its data stand at the front of the output. 1, 18, 16.
@@ -161,7 +162,8 @@ impl Unit {
         ensures { λ r. ⌜ Takes self (now (out .entry)) r (now (out .exit)) ⌝ }
     {
         let c = self.core;
-        let t = handing::taking(c, &self.acks, &self.bytes, out);
+        let acks = self.acks;
+        let t = handing::taking(c, &acks, &self.bytes, out);
         let next = t.core;
         self.core = next;
         Taken {

@@ -1,0 +1,4 @@
+-- What the calls on a unit mean, that they keep it sound, and that their contracts allow one result.
+pub mod Means
+pub mod Shape
+pub mod Writing

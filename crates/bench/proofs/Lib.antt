@@ -1,1 +1,3 @@
 -- The laws of the bench program.
+pub mod StartLaws
+pub mod DeskLaws

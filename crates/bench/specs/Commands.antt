@@ -1,5 +1,5 @@
 -- What each command does with the group as the code holds it, and that this is what the script's desk does.
-use mathlib.Core.Bool.{cond, _&&_}
+use mathlib.Core.Bool.{Bool, true, cond, _&&_}
 use mathlib.Core.List.{List}
 use mathlib.Core.Path.{_≡_}
 use Prim.Native.Nat.{ℕ, _+_, _-_, _≤_, min}
@@ -17,6 +17,8 @@ use Rattle.script.specs.Items.{Command, groups, sends, arrives, requests, takes
 use Rattle.script.specs.Desk.{Reply, unknown, answers, took, lent, act}
 use Rattle.script.specs.Desk as script
 use Rattle.script.specs.Print.{replyLine}
+use Rattle.script.specs.declared.line.Line.{Line}
+use Rattle.script.specs.declared.line.Line.the-variants.{Group, Send, Arrive, Request, Take, Unreadable}
 use Rattle.bench.specs.declared.desk.Desk.{Desk}
 use Rattle.bench.specs.declared.commands.Done.{Done}
 use Rattle.bench.specs.Prints.{longest, Prints}
@@ -73,6 +75,21 @@ actedOf d (arrives u f) =
 actedOf d (requests u k) = cond (between 1 (d .n) u) (afterRequest d (asked (unitAt d u) k)) (ignored d)
 actedOf d (takes u) = cond (between 1 (d .n) u) (afterTake d u (takenOf (unitAt d u) (lent 48))) (ignored d)
 actedOf d unreadable = ignored d
+
+-- the unit and the frame that a line names exist; there are n units and so many frames
+unfoldable pub namesKnown : ℕ → ℕ → Line → Bool
+namesKnown n count (Group m w) = true
+namesKnown n count (Send u len) = between 1 n u
+namesKnown n count (Arrive u f) = between 1 n u && between 1 count f
+namesKnown n count (Request u k) = between 1 n u
+namesKnown n count (Take u) = between 1 n u
+namesKnown n count Unreadable = true
+
+-- unit u of the group
+pub record Named (d : Desk) (u : ℕ) : Type 0 where
+  pub fits : Fits d
+  pub low : 1 ≤ u
+  pub high : u ≤ d .n
 
 -- `next` and `text` determine the result and every byte of the output; the others say what that means
 pub record Acts (d : Desk) (c : Command) (line : ℕ) (out : List ℕ) (r : Done) (out′ : List ℕ) : Type 0 where

@@ -9,7 +9,7 @@ ghost use Rattle.rules.specs.Maps.{between};
 ghost use Rattle.script.specs.Items.{sends, arrives, requests, takes, unreadable};
 ghost use Rattle.script.specs.Shown.{said};
 ghost use Rattle.bench.specs.Desk.{Fits};
-ghost use Rattle.bench.specs.Commands.{Acts};
+ghost use Rattle.bench.specs.Commands.{Named, namesKnown, Acts};
 
 // The next group, and how many bytes were printed.
 pub struct Done {
@@ -25,6 +25,25 @@ fn counted(x: u32, most: usize) -> bool
         return false;
     }
     (x as usize) <= most
+}
+
+// There are n units and so many frames: the unit and the frame that a line names exist.
+fn names(n: u8, count: usize, shown: Line) -> bool
+    ensures { λ r. ⌜ r ≡ namesKnown n count shown ⌝ }
+{
+    match shown {
+        Line::Send { unit, len: _ } => counted(unit, n as usize),
+        Line::Arrive { unit, frame } => {
+            if !counted(unit, n as usize) {
+                return false;
+            }
+            counted(frame, count)
+        }
+        Line::Request { unit, other: _ } => counted(unit, n as usize),
+        Line::Take { unit } => counted(unit, n as usize),
+        Line::Group { n: _, w: _ } => true,
+        Line::Unreadable => true,
+    }
 }
 
 // A unit's number in 8 bits. One that does not fit counts as 255, which is no unit.
@@ -57,12 +76,9 @@ fn unknown(d: Desk, line: u32, out: &mut [u8]) -> Done
 }
 
 fn send(d: Desk, line: u32, u: u32, word: &[u8], out: &mut [u8]) -> Done
-    requires { ⌜ Fits d × (d .count < 64) × (84 ≤ length (now out)) ⌝ }
+    requires { ⌜ Named d u × (d .count < 64) × (84 ≤ length (now out)) ⌝ }
     ensures { λ r. ⌜ Acts d (sends u (now (word .entry))) line (now (out .entry)) r (now (out .exit)) ⌝ }
 {
-    if !counted(u, d.n as usize) {
-        return unknown(d, line, out);
-    }
     let i = (u as usize) - 1;
     let x = d.units[i];
     let mut frame = [0u8; 117];
@@ -77,15 +93,9 @@ fn send(d: Desk, line: u32, u: u32, word: &[u8], out: &mut [u8]) -> Done
 }
 
 fn arrive(d: Desk, line: u32, u: u32, f: u32, out: &mut [u8]) -> Done
-    requires { ⌜ Fits d × (84 ≤ length (now out)) ⌝ }
+    requires { ⌜ Named d u × (1 ≤ f) × (f ≤ d .count) × (84 ≤ length (now out)) ⌝ }
     ensures { λ r. ⌜ Acts d (arrives u f) line (now (out .entry)) r (now (out .exit)) ⌝ }
 {
-    if !counted(u, d.n as usize) {
-        return unknown(d, line, out);
-    }
-    if !counted(f, d.count) {
-        return unknown(d, line, out);
-    }
     let i = (u as usize) - 1;
     let x = d.units[i];
     let slot = (f as usize) - 1;
@@ -103,12 +113,9 @@ fn arrive(d: Desk, line: u32, u: u32, f: u32, out: &mut [u8]) -> Done
 }
 
 fn request(d: Desk, line: u32, u: u32, k: u32, out: &mut [u8]) -> Done
-    requires { ⌜ Fits d × (d .count < 64) × (84 ≤ length (now out)) ⌝ }
+    requires { ⌜ Named d u × (d .count < 64) × (84 ≤ length (now out)) ⌝ }
     ensures { λ r. ⌜ Acts d (requests u k) line (now (out .entry)) r (now (out .exit)) ⌝ }
 {
-    if !counted(u, d.n as usize) {
-        return unknown(d, line, out);
-    }
     let i = (u as usize) - 1;
     let x = d.units[i];
     let mut frame = [0u8; 117];
@@ -120,12 +127,9 @@ fn request(d: Desk, line: u32, u: u32, k: u32, out: &mut [u8]) -> Done
 }
 
 fn take(d: Desk, line: u32, u: u32, out: &mut [u8]) -> Done
-    requires { ⌜ Fits d × (84 ≤ length (now out)) ⌝ }
+    requires { ⌜ Named d u × (84 ≤ length (now out)) ⌝ }
     ensures { λ r. ⌜ Acts d (takes u) line (now (out .entry)) r (now (out .exit)) ⌝ }
 {
-    if !counted(u, d.n as usize) {
-        return unknown(d, line, out);
-    }
     let i = (u as usize) - 1;
     let x = d.units[i];
     let mut word = [0u8; 48];
@@ -151,6 +155,9 @@ pub fn act(d: Desk, line: u32, shown: Line, text: &[u8], out: &mut [u8]) -> Done
     requires { ⌜ Fits d × (d .count < 64) × (84 ≤ length (now out)) ⌝ }
     ensures { λ r. ⌜ Acts d (said shown (now (text .entry))) line (now (out .entry)) r (now (out .exit)) ⌝ }
 {
+    if !names(d.n, d.count, shown) {
+        return unknown(d, line, out);
+    }
     match shown {
         Line::Send { unit, len } => send(d, line, unit, last(text, len), out),
         Line::Arrive { unit, frame } => arrive(d, line, unit, frame, out),

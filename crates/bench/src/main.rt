@@ -9,13 +9,13 @@ use reading::Bench;
 ghost use Rattle.bench.specs.Reading.{Ready};
 
 // The bench after one part, and whether there may be more to print.
-struct Turn {
+struct Next {
     bench: Bench,
     more: bool,
 }
 
 // Reads a part of the input, and prints what it prints. Where the input has ended, it prints the end.
-fn turn(b: Bench) -> Turn
+fn turn(b: Bench) -> Next
     requires { ⌜ Ready b ⌝ }
     ensures { λ r. ⌜ Ready (r .bench) ⌝ }
 {
@@ -26,7 +26,7 @@ fn turn(b: Bench) -> Turn
     if n == 0 {
         let len = b.end(&mut out);
         io::write_all(STDOUT_FILENO, &out[..len]);
-        return Turn {
+        return Next {
             bench: b,
             more: false,
         };
@@ -35,7 +35,7 @@ fn turn(b: Bench) -> Turn
     let len = t.len;
     let is_written = io::write_all(STDOUT_FILENO, &out[..len]);
     let next = t.bench;
-    Turn {
+    Next {
         bench: next,
         more: is_written && next.number < 66,
     }

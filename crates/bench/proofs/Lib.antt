@@ -1,3 +1,8 @@
 -- The laws of the bench program.
+pub mod PrintLaws
 pub mod StartLaws
 pub mod DeskLaws
+pub mod LengthLaws
+pub mod ActLaws
+pub mod NamesLaws
+pub mod ReadLaws

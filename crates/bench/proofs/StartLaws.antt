@@ -11,7 +11,8 @@ use Rattle.rules.specs.Message.{last}
 use Rattle.rules.specs.State.{State, opened, closed}
 use Rattle.rules.specs.Sound.{rangesFit}
 use Rattle.rules.specs.Calls.{Opened, openChecks, opening}
-use Rattle.rules.proofs.MapsLaws.{and-left, and-right, and-false, between-low, between-high, not-true}
+use Rattle.rules.proofs.MapsLaws.{and-false, between-low, between-high, not-true}
+use Rattle.rules.proofs.SoundLaws.{Ranges, rangesFit-facts}
 use Rattle.tables.proofs.GridLaws.{Unit?, inside, outside, unit?}
 use Rattle.tables.proofs.RowLaws.{at-before}
 use Rattle.state.proofs.EveryLaws.{every-units}
@@ -36,8 +37,7 @@ module _ (i n w : ℕ) where
   unfolding opening openChecks
   refused-closed first e = rw e
 
-  -- where i, n and w are in range
-  module _ (n-high : n ≤ 8) (i-low : 1 ≤ i) (i-high : i ≤ n) where
+  module _ (R : Ranges i n w) where
     units-ones : units n ones ≡ units n (λ k. 1)
     unfolding units
     units-ones = fun-ext (λ k. go k (unit? n k))
@@ -48,7 +48,7 @@ module _ (i n w : ℕ) where
 
     opened-ones : opened i n w 1 ones ≡ opened i n w 1 (λ k. 1)
     unfolding opened
-    opened-ones = rw (units-ones, at-ones i i-low (omega arith))
+    opened-ones = rw (units-ones, at-ones i (omega arith) (omega arith))
 
     every-ones : every 1 n (λ k. between 1 last (ones k)) ≡ every 1 n (λ k. between 1 last 1)
     every-ones = every-units n (λ k. between 1 last (ones k)) (λ k. between 1 last 1) (λ k a b. ap (between 1 last) (at-ones k a (omega arith)))
@@ -58,13 +58,10 @@ module _ (i n w : ℕ) where
     ranged = rw (every-ones, opened-ones)
 
   opening-ones : opening i n w 1 ones ≡ opening i n w 1 (λ k. 1)
-  unfolding rangesFit
   opening-ones = go (rangesFit i n w) refl
     where
       go : (t : Bool) → rangesFit i n w ≡ t → opening i n w 1 ones ≡ opening i n w 1 (λ k. 1)
-      go true e =
-          let rest : between 2 8 n && between 2 4 w ≡ true = and-left _ _ e in
-          ranged (between-high 2 8 n (and-left _ _ rest)) (between-low 1 n i (and-right _ _ e)) (between-high 1 n i (and-right _ _ e))
+      go true e = ranged (rangesFit-facts i n w e)
       go false e = refused-closed ones e ∙ sym (refused-closed (λ k. 1) e)
 
   pub started-view : view (startedUnit i n w) ≡ opening i n w 1 (λ k. 1) .unit

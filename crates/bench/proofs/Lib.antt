@@ -6,3 +6,4 @@ pub mod LengthLaws
 pub mod ActLaws
 pub mod NamesLaws
 pub mod ReadLaws
+pub mod FeedLaws

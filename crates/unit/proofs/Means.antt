@@ -41,13 +41,13 @@ use Rattle.unit.specs.declared.Opened.{Opened}
 use Rattle.unit.specs.declared.Sent.{Sent}
 use Rattle.unit.specs.declared.Arrived.{Arrived}
 use Rattle.unit.specs.declared.Taken.{Taken}
-use Rattle.unit.specs.View.{view, openedMeans, sentMeans, arrivedMeans, handedMeans, takenMeans}
+use Rattle.unit.specs.View.{Outcome, view, openedMeans, meant, ofSent, ofArrived, ofHanded, ofTaken}
 use Rattle.unit.specs.Exact.{emptyWith, withCore, storedWith, openedOf, doneSend, refusedSend, sentUnit, sentBy, sentOf, arrivedUnit, arrivedBy, arrivedOf, takenOf}
-use Rattle.unit.specs.Contracts.{Opens, Sends, Arrives, Asks, Copies, Takes, Looks, Tests}
+use Rattle.unit.specs.Contracts.{SoundAfter, Opens, Sends, Arrives, Asks, Copies, Takes, Looks, Tests}
 
 -- what means a call on a sound unit leaves a sound one
-sound-after : (s : State) (c : Call) (r : Result) → r ≡ call s c → sound s ≡ true → sound (r .next) ≡ true
-sound-after s c r e h = ap (λ (q : Result). sound (q .next)) e ∙ call-sound s c h
+pub sound-after : (u : Unit) (c : Call) (x : Outcome) → meant x ≡ call (view u) c → SoundAfter u (x .next)
+sound-after u c x e h = ap (λ (r : Result). sound (r .next)) e ∙ call-sound (view u) c h
 
 -- ---- opening
 
@@ -79,8 +79,8 @@ module _ (u : Unit) where
       → r ≡ takenOf u out .result → out′ ≡ takenOf u out .output → Takes u out r out′
   unfolding takenOf
   takes-message long out r out′ e b =
-      let m : takenMeans r out′ ≡ rules.take (view u) out = rw (e, b) (taking-means (u .core) (u .acks) (u .bytes) (u .frames) out long) in
-      record { exact = e; bytes = b; means = m; sound = sound-after (view u) (takes out) (takenMeans r out′) m }
+      let m : meant (ofTaken r out′) ≡ rules.take (view u) out = rw (e, b) (taking-means (u .core) (u .acks) (u .bytes) (u .frames) out long) in
+      record { exact = e; bytes = b; means = m; sound = sound-after u (takes out) (ofTaken r out′) m }
 
   pub asks-missing : length (u .core .req) ≡ 8 → (k : ℕ) (out : List ℕ) (r : Handed) (out′ : List ℕ)
       → r ≡ askingOf (u .core) (u .acks) k out .result → out′ ≡ askingOf (u .core) (u .acks) k out .output → Asks u k out r out′
@@ -107,16 +107,16 @@ module _ (u : Unit) (Z : Shaped (u .core) (u .acks) (u .bytes) (u .frames)) wher
   arrives-bytes l r e =
       let a = arrivalOf (u .core) (u .acks) (decode l) in
       let text = payloadOf (decode l) in
-      let m : arrivedMeans r ≡ rules.arrive (view u) l = rw (e, view-either) (arrival-means (u .core) (u .acks) (u .bytes) (u .frames) (Z .sized) l) in
-      record { exact = e; means = m; sound = sound-after (view u) (hears l) (arrivedMeans r) m }
+      let m : meant (ofArrived r) ≡ rules.arrive (view u) l = rw (e, view-either) (arrival-means (u .core) (u .acks) (u .bytes) (u .frames) (Z .sized) l) in
+      record { exact = e; means = m; sound = sound-after u (hears l) (ofArrived r) m }
 
   -- the send that the numbers decide, once it is written
-  sent-as : (d out : List ℕ) (s : Sending) → sentMeans (sentBy u d out s .result) (sentBy u d out s .output) ≡ sentAs s (u .core) (u .acks) (u .bytes) (u .frames) d out
+  sent-as : (d out : List ℕ) (s : Sending) → meant (ofSent (sentBy u d out s .result) (sentBy u d out s .output)) ≡ sentAs s (u .core) (u .acks) (u .bytes) (u .frames) d out
   unfolding sentBy sentUnit sentAs
   sent-as d out s = go (eqb (s .answer) 0)
     where
       means : Given Sent → Result
-      means g = sentMeans (g .result) (g .output)
+      means g = meant (ofSent (g .result) (g .output))
 
       go : (t : Bool) → means (cond t (doneSend u d out s) (refusedSend u out (s .answer))) ≡ cond t (means (doneSend u d out s)) (means (refusedSend u out (s .answer)))
       go true = refl
@@ -125,16 +125,16 @@ module _ (u : Unit) (Z : Shaped (u .core) (u .acks) (u .bytes) (u .frames)) wher
   pub sends-data : (d out : List ℕ) (r : Sent) (out′ : List ℕ) → record { result = r; output = out′ } ≡ sentOf u d out → Sends u d out r out′
   unfolding sentOf
   sends-data d out r out′ e =
-      let m : sentMeans r out′ ≡ rules.send (view u) d out =
-          ap (λ (g : Given Sent). sentMeans (g .result) (g .output)) e
-          ∙ sent-as d out (sendingOf (u .core) (u .acks) (length d) (length out))
-          ∙ sending-means (u .core) (u .acks) (u .bytes) (u .frames) Z d out
+      let m : meant (ofSent r out′) ≡ rules.send (view u) d out =
+      ap (λ (g : Given Sent). meant (ofSent (g .result) (g .output))) e
+      ∙ sent-as d out (sendingOf (u .core) (u .acks) (length d) (length out))
+      ∙ sending-means (u .core) (u .acks) (u .bytes) (u .frames) Z d out
       in
       record {
         exact = ap (λ (g : Given Sent). g .result) e;
         bytes = ap (λ (g : Given Sent). g .output) e;
         means = m;
-        sound = sound-after (view u) (sends d out) (sentMeans r out′) m;
+        sound = sound-after u (sends d out) (ofSent r out′) m;
       }
 
 pub looks-shown : (given meant : Looked) → given ≡ meant → (r : Look) → r ≡ lookOf given → Looks given meant r

@@ -6,7 +6,7 @@ use mathlib.Core.Path.{_≡_, refl, sym, ap, _∙_}
 use Prim.Native.Nat.{ℕ, _+_, _*_, _≤_}
 use native.Mathlib.Omega.{arith}
 use lib.Dec.{eqb, ltb}
-use lib.ListN.{length, take, drop, length-take}
+use lib.ListN.{length, take, drop, length-take, length-append}
 use lib.Seq.{take-append-seam}
 use borrow.Author.Tests.{eq-eqb, ne-eqb, eqb-true, eqb-false, ltb-false, le-ltb}
 use Rattle.rules.specs.Message.{message, encode, decode}
@@ -34,23 +34,34 @@ use Rattle.unit.specs.declared.Sent.{Sent}
 use Rattle.unit.specs.declared.Arrived.{Arrived}
 use Rattle.unit.specs.Exact.{withCore, storedWith, refusedSend, sentUnit, sentBy, sentOf, arrivedUnit, arrivedBy, arrivedOf}
 
+-- what is written into the arrays of u, and settled; `slots` are the kept frames then
+pub record Stored (u : Unit) (c : Core) (place : ℕ) (ack text slots : List ℕ) (next : Unit) : Type 0 where
+  pub acks : next .acks ≡ withAck (u .acks) place ack
+  pub bytes : next .bytes ≡ withText (u .bytes) place text
+  pub frames : next .frames ≡ slots
+  pub core : next .core ≡ settledOf c (next .acks)
+
+stored-is : (u : Unit) (c : Core) (place : ℕ) (ack text frames : List ℕ) (next : Unit) → Stored u c place ack text frames next → next ≡ storedWith u c place ack text frames
+stored-is u c place ack text frames next w i =
+    record {
+      core = (w .core ∙ ap (settledOf c) (w .acks)) i;
+      acks = w .acks i;
+      bytes = w .bytes i;
+      frames = w .frames i;
+    }
+
 -- ---- arrival
 
 module _ (u : Unit) (l : List ℕ) (a : Arrival) (e : a ≡ arrivalOf (u .core) (u .acks) (decode l)) where
-  pub arrived-passing : a .stores ≡ false
-      → record { answer = a .answer; first = a .first; last = a .last; unit = withCore u (a .core) } ≡ arrivedOf u l
+  pub arrived-passing : a .stores ≡ false → record { answer = a .answer; first = a .first; last = a .last; unit = withCore u (a .core) } ≡ arrivedOf u l
   unfolding arrivedOf arrivedBy arrivedUnit
   arrived-passing h = rw (← e, h)
 
   pub arrived-storing : a .stores ≡ true → (text : List ℕ) → text ≡ payloadOf (decode l)
-      → record {
-        answer = a .answer;
-        first = a .first;
-        last = a .last;
-        unit = storedWith u (a .core) (a .place) (a .ack) text (withoutFrames (u .frames) (a .gone));
-      } ≡ arrivedOf u l
+      → (next : Unit) → Stored u (a .core) (a .place) (a .ack) text (withoutFrames (u .frames) (a .gone)) next
+      → record { answer = a .answer; first = a .first; last = a .last; unit = next } ≡ arrivedOf u l
   unfolding arrivedOf arrivedBy arrivedUnit
-  arrived-storing h text t = rw (← e, h, t)
+  arrived-storing h text t next w = rw (← e, h, ← t, stored-is u (a .core) (a .place) (a .ack) text (withoutFrames (u .frames) (a .gone)) next w)
 
 -- ---- send
 
@@ -76,21 +87,25 @@ sendable c acks len room = go (soundOf c acks) refl (eqb (answerOf (sendChecks c
     go true s false z e = absurd (eqb-false (answerOf (sendChecks c len room)) 0 z e)
     go false s z h e = absurd (omega arith)
 
-
-module _ (c : Core) (buf : ℕ) (d out : List ℕ) (most : c .n ≤ length (c .req)) where
+module _ (c : Core) (buf : ℕ) (d : List ℕ) (most : c .n ≤ length (c .req)) where
   -- the frame, 37 + 4n + d bytes long
   pub own-length : length (ownFrame c buf d) ≡ 37 + 4 * c .n + length d
   unfolding ownFrame
   own-length = omega (arith, length-message (messageOf (c .cid) (c .me) (c .seq) (take (c .n) (c .req)) buf d), length-take (c .n) (c .req))
 
   -- stands at the front of the output
-  module _ (p : Sendable c (length d) (length out)) (answer : ℕ) (after : List ℕ)
+  module _ (out : List ℕ) (p : Sendable c (length d) (length out)) (answer : ℕ) (after : List ℕ)
       (w : Wrote (dataWritten (c .n) (messageOf (c .cid) (c .me) (c .seq) (take (c .n) (c .req)) buf d) out) answer after) where
     pub own-written : after ≡ written out (ownFrame c buf d)
     unfolding dataWritten ownFrame
     own-written =
         let n = is-between 2 8 (c .n) (p .ranges .n-low) (p .ranges .n-high) in
         rw (n, le-ltb 48 (length d) (p .short), le-ltb (length out) (37 + 4 * c .n + length d) (p .fits)) at (w .leaves)
+
+    pub own-fits : 37 + 4 * c .n + length d ≤ length after
+    own-fits =
+        let f = ownFrame c buf d in
+        omega (arith, own-length, ap length own-written, length-append f (drop (length f) out))
 
     pub own-front : take (37 + 4 * c .n + length d) after ≡ ownFrame c buf d
     own-front =
@@ -103,16 +118,10 @@ module _ (u : Unit) (d out : List ℕ) (s : Sending) (e : s ≡ sendingOf (u .co
   unfolding sentOf sentBy
   sent-refused h = rw (← e, ne-eqb (s .answer) 0 h)
 
-  pub sent-done : s .answer ≡ 0 → (len : ℕ) (frame after : List ℕ) → len ≡ length frame → frame ≡ ownFrame (u .core) (s .buf) d
-      → after ≡ written out (ownFrame (u .core) (s .buf) d)
-      → record {
-        result = record {
-          answer = 0;
-          seq = u .core .seq;
-          len = len;
-          unit = storedWith u (s .core) (s .place) (u .core .req) d (withoutFrames (withFrame (u .frames) (s .slot) frame) (s .gone));
-        };
-        output = after;
-      } ≡ sentOf u d out
+  pub sent-done : s .answer ≡ 0 → (frame after : List ℕ) → frame ≡ ownFrame (u .core) (s .buf) d → after ≡ written out (ownFrame (u .core) (s .buf) d)
+      → (len : ℕ) → len ≡ length (ownFrame (u .core) (s .buf) d)
+      → (next : Unit) → Stored u (s .core) (s .place) (u .core .req) d (withoutFrames (withFrame (u .frames) (s .slot) frame) (s .gone)) next
+      → record { result = record { answer = 0; seq = u .core .seq; len = len; unit = next }; output = after } ≡ sentOf u d out
   unfolding sentOf sentBy sentUnit
-  sent-done h len frame after m f w = rw (← e, eq-eqb (s .answer) 0 h, m, f, w)
+  sent-done h frame after f x len m next w =
+      rw (← e, eq-eqb (s .answer) 0 h, m, x, ← f, stored-is u (s .core) (s .place) (u .core .req) d (withoutFrames (withFrame (u .frames) (s .slot) frame) (s .gone)) next w)

@@ -22,7 +22,7 @@ use Rattle.unit.specs.declared.Opened.{Opened}
 use Rattle.unit.specs.declared.Sent.{Sent}
 use Rattle.unit.specs.declared.Arrived.{Arrived}
 use Rattle.unit.specs.declared.Taken.{Taken}
-use Rattle.unit.specs.View.{view, openedMeans, sentMeans, arrivedMeans, handedMeans, takenMeans}
+use Rattle.unit.specs.View.{view, openedMeans, meant, ofSent, ofArrived, ofHanded, ofTaken}
 use Rattle.unit.specs.Exact.{emptyWith, openedOf, sentOf, arrivedOf, takenOf}
 
 -- a sound unit stays sound
@@ -40,32 +40,32 @@ pub record Opens (o : Opening) (r : Opened) : Type 0 where
 pub record Sends (u : Unit) (d out : List ℕ) (r : Sent) (out′ : List ℕ) : Type 0 where
   pub exact : r ≡ sentOf u d out .result
   pub bytes : out′ ≡ sentOf u d out .output
-  pub means : sentMeans r out′ ≡ rules.send (view u) d out
+  pub means : meant (ofSent r out′) ≡ rules.send (view u) d out
   pub sound : SoundAfter u (r .unit)
 
 -- the bytes l arrive
 pub record Arrives (u : Unit) (l : List ℕ) (r : Arrived) : Type 0 where
   pub exact : r ≡ arrivedOf u l
-  pub means : arrivedMeans r ≡ rules.arrive (view u) l
+  pub means : meant (ofArrived r) ≡ rules.arrive (view u) l
   pub sound : SoundAfter u (r .unit)
 
 -- the request for what is missing of unit k; the unit stays as it is
 pub record Asks (u : Unit) (k : ℕ) (out : List ℕ) (r : Handed) (out′ : List ℕ) : Type 0 where
   pub exact : r ≡ askingOf (u .core) (u .acks) k out .result
   pub bytes : out′ ≡ askingOf (u .core) (u .acks) k out .output
-  pub means : handedMeans u r out′ ≡ rules.makeRequest (view u) k out
+  pub means : meant (ofHanded u r out′) ≡ rules.makeRequest (view u) k out
 
 -- the kept frame of number x; the unit stays as it is
 pub record Copies (u : Unit) (x : ℕ) (out : List ℕ) (r : Handed) (out′ : List ℕ) : Type 0 where
   pub exact : r ≡ copyingOf (u .core) (u .acks) (u .frames) x out .result
   pub bytes : out′ ≡ copyingOf (u .core) (u .acks) (u .frames) x out .output
-  pub means : handedMeans u r out′ ≡ rules.copy (view u) x out
+  pub means : meant (ofHanded u r out′) ≡ rules.copy (view u) x out
 
 -- the oldest confirmed message is taken
 pub record Takes (u : Unit) (out : List ℕ) (r : Taken) (out′ : List ℕ) : Type 0 where
   pub exact : r ≡ takenOf u out .result
   pub bytes : out′ ≡ takenOf u out .output
-  pub means : takenMeans r out′ ≡ rules.take (view u) out
+  pub means : meant (ofTaken r out′) ≡ rules.take (view u) out
   pub sound : SoundAfter u (r .unit)
 
 -- a look shows what the unit's numbers give, and that is what the look of the rules shows

@@ -35,10 +35,11 @@ withCore u c = record { core = c; acks = u .acks; bytes = u .bytes; frames = u .
 abbrev pub emptyWith : Core → Unit
 emptyWith c = record { core = c; acks = replicate 1024 0; bytes = replicate 6144 0; frames = replicate 468 0 }
 
+abbrev pub openedFrom : state.Opened → Opened
+openedFrom x = record { answer = x .answer; unit = emptyWith (x .core) }
+
 unfoldable pub openedOf : Opening → Opened
-openedOf o =
-    let x : state.Opened = opening.openedOf o in
-    record { answer = x .answer; unit = emptyWith (x .core) }
+openedOf o = openedFrom (opening.openedOf o)
 
 -- ---- send and arrival
 
@@ -88,13 +89,10 @@ arrivedOf u l = arrivedBy u (payloadOf (decode l)) (arrivalOf (u .core) (u .acks
 
 -- ---- take
 
-abbrev pub takenBy : Unit → Given handing.Taken → Given Taken
-takenBy u g =
-    let t : handing.Taken = g .result in
-    record {
-      result = record { answer = t .answer; src = t .src; seq = t .seq; len = t .len; unit = withCore u (t .core) };
-      output = g .output;
-    }
+abbrev pub takenFrom : Unit → handing.Taken → Taken
+takenFrom u t = record { answer = t .answer; src = t .src; seq = t .seq; len = t .len; unit = withCore u (t .core) }
 
 unfoldable pub takenOf : Unit → List ℕ → Given Taken
-takenOf u out = takenBy u (takingOf (u .core) (u .acks) (u .bytes) out)
+takenOf u out =
+    let g : Given handing.Taken = takingOf (u .core) (u .acks) (u .bytes) out in
+    record { result = takenFrom u (g .result); output = g .output }

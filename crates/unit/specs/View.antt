@@ -18,17 +18,28 @@ view u = look (u .core) (u .acks) (u .bytes) (u .frames)
 abbrev pub openedMeans : Opened → rules.Opened
 openedMeans r = record { answer = r .answer; unit = view (r .unit) }
 
--- each with the lent output after the call; an arrival has none
-abbrev pub sentMeans : Sent → List ℕ → Result
-sentMeans r out = record { answer = r .answer; numbers = r .seq ∷ r .len ∷ []; next = view (r .unit); output = out }
+-- what a call gives: its answer, the numbers handed back, the next unit, and the whole lent output
+pub record Outcome : Type 0 where
+  pub answer : ℕ
+  pub numbers : List ℕ
+  pub next : Unit
+  pub output : List ℕ
 
-abbrev pub arrivedMeans : Arrived → Result
-arrivedMeans r = record { answer = r .answer; numbers = r .first ∷ r .last ∷ []; next = view (r .unit); output = [] }
+-- in the rules
+abbrev pub meant : Outcome → Result
+meant x = record { answer = x .answer; numbers = x .numbers; next = view (x .next); output = x .output }
 
--- a request and a copy leave the unit as it was
-abbrev pub handedMeans : Unit → Handed → List ℕ → Result
-handedMeans u r out = record { answer = r .answer; numbers = r .len ∷ []; next = view u; output = out }
+-- of each call, with the lent output after it; an arrival has none
+abbrev pub ofSent : Sent → List ℕ → Outcome
+ofSent r out = record { answer = r .answer; numbers = r .seq ∷ r .len ∷ []; next = r .unit; output = out }
 
-abbrev pub takenMeans : Taken → List ℕ → Result
-takenMeans r out =
-    record { answer = r .answer; numbers = r .src ∷ r .seq ∷ r .len ∷ []; next = view (r .unit); output = out }
+abbrev pub ofArrived : Arrived → Outcome
+ofArrived r = record { answer = r .answer; numbers = r .first ∷ r .last ∷ []; next = r .unit; output = [] }
+
+-- a request and a copy leave the unit u as it was
+abbrev pub ofHanded : Unit → Handed → List ℕ → Outcome
+ofHanded u r out = record { answer = r .answer; numbers = r .len ∷ []; next = u; output = out }
+
+abbrev pub ofTaken : Taken → List ℕ → Outcome
+ofTaken r out =
+    record { answer = r .answer; numbers = r .src ∷ r .seq ∷ r .len ∷ []; next = r .unit; output = out }

@@ -19,9 +19,9 @@ ghost use Rattle.unit.specs.Contracts.{Opens, Sends, Arrives, Asks, Copi
 // A unit of a group: its numbers, ACK and data of its places, and the frames that it keeps.
 pub struct Unit {
     pub core: Core,
-    pub acks: [u32; 1024],
-    pub bytes: [u8; 6144],
-    pub frames: [u8; 468],
+    pub acks: [u32; Unit::PLACES * Unit::MOST_UNITS],
+    pub bytes: [u8; Unit::PLACES * Unit::MOST_DATA],
+    pub frames: [u8; Unit::MOST_WINDOW * Unit::MOST_FRAME],
 }
 
 // With 0 the unit; with 2 the closed unit, all numbers 0.
@@ -56,16 +56,20 @@ pub struct Taken {
 }
 
 impl Unit {
-    // The fewest and the most units of a group, the narrowest and the widest window, and the most bytes of data.
-    pub const LEAST_UNITS: u8 = 2;
+    // The fewest and the most units of a group, the narrowest and the widest window, the most bytes of data.
+    pub const LEAST_UNITS: usize = 2;
 
-    pub const MOST_UNITS: u8 = 8;
+    pub const MOST_UNITS: usize = 8;
 
-    pub const LEAST_WINDOW: u8 = 2;
+    pub const LEAST_WINDOW: usize = 2;
 
-    pub const MOST_WINDOW: u8 = 4;
+    pub const MOST_WINDOW: usize = 4;
 
     pub const MOST_DATA: usize = 48;
+    // What follows from them: the most places, and the most bytes of a frame.
+    pub const PLACES: usize = 4 * Self::MOST_WINDOW * Self::MOST_UNITS;
+
+    pub const MOST_FRAME: usize = 37 + 4 * Self::MOST_UNITS + Self::MOST_DATA;
 
     // Opens a unit: 2 outside the ranges.
     pub fn open(o: Opening) -> Opened
@@ -77,9 +81,9 @@ impl Unit {
             answer: f.answer,
             unit: Unit {
                 core,
-                acks: [0u32; 1024],
-                bytes: [0u8; 6144],
-                frames: [0u8; 468],
+                acks: [0u32; Self::PLACES * Self::MOST_UNITS],
+                bytes: [0u8; Self::PLACES * Self::MOST_DATA],
+                frames: [0u8; Self::MOST_WINDOW * Self::MOST_FRAME],
             },
         }
     }
@@ -164,8 +168,8 @@ impl Unit {
         let c = self.core;
         let acks = self.acks;
         let t = handing::taking(c, &acks, &self.bytes, out);
-        let next = t.core;
-        self.core = next;
+        let rest = t.core;
+        self.core = rest;
         Taken {
             answer: t.answer,
             src: t.src,

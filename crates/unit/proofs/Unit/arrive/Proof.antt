@@ -30,8 +30,13 @@ returns c =
     let read = c .before .before .before .before .before .before .before in
     let u = start .args .t1 in
     arrives-bytes u (shaped u _ (start .good .0 .1 .1)) (start .args .s .now) _
-    (rw (c .settled .ensures, c .before .before .before .before .drop-frames .ensures, c .before .before .before .before .before .before .put-text .ensures, read .before .before .put-ack .ensures)
-    (arrived-storing u _ _ (read .before .before .before .before .before .before .before .arrive .ensures) (read .before .before .before .before .before .if1 .taken) _ (read .payload .ensures)))
+    (arrived-storing u _ _ (read .before .before .before .before .before .before .before .arrive .ensures) (read .before .before .before .before .before .if1 .taken) _ (read .payload .ensures) _
+    (record {
+      acks = read .before .before .put-ack .ensures;
+      bytes = c .before .before .before .before .before .before .put-text .ensures;
+      frames = c .before .before .before .before .drop-frames .ensures;
+      core = c .settled .ensures;
+    }))
 
 returns-2 : tie.Need-returns-2
 returns-2 c =

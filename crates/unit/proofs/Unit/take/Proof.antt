@@ -1,6 +1,7 @@
 -- The numbers of `handing` come into the unit, and its arrays stay.
 use borrow.Author.Needs.{needs}
-use Rattle.unit.specs.Exact.{takenOf}
+use mathlib.Core.Path.{ap}
+use Rattle.unit.specs.Exact.{takenFrom, takenOf}
 use Rattle.unit.proofs.Means.{takes-message}
 use Rattle.unit.proofs.Shape.{shaped}
 use Rattle.unit.proofs.Unit.take.Statement.{statement}
@@ -21,7 +22,7 @@ returns c =
     let start = c .before .before .before .before .before .before .before .before .before .before .before .before in
     let u = start .args .t1 in
     let given = c .before .before .before .taking .ensures in
-    takes-message u (shaped u _ (start .good .0 .1 .1) .sized .list) (start .args .out .now) _ _ (rw (given .result)) (given .output)
+    takes-message u (shaped u _ (start .good .0 .1 .1) .sized .list) (start .args .out .now) _ _ (ap (takenFrom u) (given .result)) (given .output)
 
 pub take-spec : {M : Type 1} → statement M
 take-spec = tie.close (tie.spec slice-aggregate-taking taking-requires same-length returns)

@@ -17,7 +17,7 @@ use Rattle.unit.specs.declared.Unit.{Unit}
 use Rattle.unit.specs.declared.Sent.{Sent}
 use Rattle.unit.specs.declared.Arrived.{Arrived}
 use Rattle.unit.specs.declared.Taken.{Taken}
-use Rattle.unit.specs.View.{view, sentMeans, arrivedMeans, handedMeans, takenMeans}
+use Rattle.unit.specs.View.{view, meant, ofSent, ofArrived, ofHanded, ofTaken}
 use Rattle.script.specs.Items.{sends, arrives, requests, takes}
 use Rattle.script.specs.Desk.{Reply, answers, called, wrote, taking, lent, act, frameOf}
 use Rattle.script.specs.Desk as script
@@ -48,7 +48,7 @@ module _ (d : Desk) (u : ℕ) (N : Named d u) (long : length (d .units) ≡ 3) w
   there : unitsOf (d .units) u ≡ view x
   there = unit-is (d .units) u (N .low) few
 
-  pub arrived-acts : (f : ℕ) → 1 ≤ f → f ≤ d .count → (a : Arrived) → arrivedMeans a ≡ arrive (view x) (frameIn (d .store) (d .lens) (f - 1))
+  pub arrived-acts : (f : ℕ) → 1 ≤ f → f ≤ d .count → (a : Arrived) → meant (ofArrived a) ≡ arrive (view x) (frameIn (d .store) (d .lens) (f - 1))
       → asScript (afterArrival d u a) ≡ act (deskOf d) (arrives u f)
   arrived-acts f low high a m =
       rw (
@@ -62,13 +62,13 @@ module _ (d : Desk) (u : ℕ) (N : Named d u) (long : length (d .units) ≡ 3) w
         append-nil,
       )
 
-  pub taken-acts : (g : Given Taken) → takenMeans (g .result) (g .output) ≡ rules.take (view x) (lent 48)
+  pub taken-acts : (g : Given Taken) → meant (ofTaken (g .result) (g .output)) ≡ rules.take (view x) (lent 48)
       → asScript (afterTake d u g) ≡ act (deskOf d) (takes u)
   taken-acts g m = rw (exists, there, ← m, unit-set (d .units) u (N .low) few long (g .result .unit), append-nil)
 
   module _ (room : d .count < 64) (store-long : length (d .store) ≡ 7488) (lens-long : length (d .lens) ≡ 64) where
     pub sent-acts : (word : List ℕ) (g : Given Sent) → length (g .output) ≡ 117 → g .result .len ≤ 117
-        → sentMeans (g .result) (g .output) ≡ send (view x) word (lent 117)
+        → meant (ofSent (g .result) (g .output)) ≡ send (view x) word (lent 117)
         → asScript (afterSend d u g) ≡ act (deskOf d) (sends u word)
     sent-acts word g l-long short m =
         let s : Sent = g .result in
@@ -81,7 +81,7 @@ module _ (d : Desk) (u : ℕ) (N : Named d u) (long : length (d .units) ≡ 3) w
         )
 
     pub asked-acts : (k : ℕ) (g : Given Handed) → length (g .output) ≡ 117 → g .result .len ≤ 117
-        → handedMeans x (g .result) (g .output) ≡ makeRequest (view x) (min k 255) (lent 117)
+        → meant (ofHanded x (g .result) (g .output)) ≡ makeRequest (view x) (min k 255) (lent 117)
         → asScript (afterRequest d g) ≡ act (deskOf d) (requests u k)
     asked-acts k g l-long short m =
         let h : Handed = g .result in

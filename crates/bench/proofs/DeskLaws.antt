@@ -76,6 +76,13 @@ module _ (store lens : List ℕ) where
           let e : m ≡ i = omega arith in
           getD-at (framesIn store lens m) (frameIn store lens m) [] [] i (length-frames m ∙ e) ∙ ap (frameIn store lens) e
 
+-- a frame as a slice of the store
+pub frame-slice : (d : Desk) → Fits d → length (d .store) ≡ 7488 → (i : ℕ) → i < d .count
+    → take (117 * i + getD (d .lens) i 0 - 117 * i) (drop (117 * i) (d .store)) ≡ frameIn (d .store) (d .lens) i
+frame-slice d fits long i h =
+    let e : 117 * i + getD (d .lens) i 0 - 117 * i ≡ getD (d .lens) i 0 = omega arith in
+    rw e (sym (part-take (d .store) (117 * i) (getD (d .lens) i 0) (omega (arith, fits .lengths i h, fits .frames))))
+
 frames-same : (store lens store′ lens′ : List ℕ) (m : ℕ) → ((i : ℕ) → i < m → frameIn store lens i ≡ frameIn store′ lens′ i)
     → framesIn store lens m ≡ framesIn store′ lens′ m
 unfolding framesIn

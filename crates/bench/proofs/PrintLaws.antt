@@ -3,7 +3,7 @@ use mathlib.Core.List.{List, [], _∷_}
 use mathlib.Core.Path.{_≡_, ap, _∙_}
 use Prim.Native.Nat.{ℕ, _+_, _<_, _≤_}
 use native.Mathlib.Omega.{arith}
-use lib.ListN.{length}
+use lib.ListN.{length, take, length-take}
 use borrow.Author.Tests.{le-leb}
 use Rattle.script.specs.Desk.{unknown, answers, took}
 use Rattle.script.specs.Print.{text, decimal, groupLine, noGroupLine, replyItems, replyLine}
@@ -29,11 +29,19 @@ pub answer-short : (k a : ℕ) → k < 4294967296 → a < 4294967296 → length 
 unfolding replyLine
 answer-short k a h i = omega (arith, ten k h, ten a i, length-joined (decimal k) (decimal a) [], length-joined-last (decimal a))
 
-pub taken-short : (k j x : ℕ) (word : List ℕ) → k < 4294967296 → j < 4294967296 → x < 4294967296 → length word ≤ 48
-    → length (replyLine k (took j x word)) ≤ 84
+pub taken-short : (k j x n : ℕ) (l : List ℕ) → k < 4294967296 → j < 4294967296 → x < 4294967296 → n ≤ 48
+    → length (replyLine k (took j x (take n l))) ≤ 84
 unfolding replyLine
-taken-short k j x word h i l w =
-    omega (arith, ten k h, ten j i, ten x l, length-taken j x word, length-joined (decimal k) (decimal 0) (decimal j ∷ decimal x ∷ word ∷ []))
+taken-short k j x n l h i q most =
+    omega (
+      arith,
+      ten k h,
+      ten j i,
+      ten x q,
+      length-take n l,
+      length-taken j x (take n l),
+      length-joined (decimal k) (decimal 0) (decimal j ∷ decimal x ∷ take n l ∷ []),
+    )
 
 pub group-short : (n w : ℕ) → n < 4294967296 → w < 4294967296 → length (groupLine n w) ≤ 84
 unfolding groupLine

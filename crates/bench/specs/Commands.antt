@@ -2,7 +2,7 @@
 use mathlib.Core.Bool.{Bool, true, cond, _&&_}
 use mathlib.Core.List.{List}
 use mathlib.Core.Path.{_≡_}
-use Prim.Native.Nat.{ℕ, _+_, _-_, _≤_, min}
+use Prim.Native.Nat.{ℕ, _+_, _-_, _<_, _≤_, min}
 use lib.Dec.{eqb}
 use lib.ListN.{take}
 use Rattle.rules.specs.Maps.{between}
@@ -90,6 +90,21 @@ pub record Named (d : Desk) (u : ℕ) : Type 0 where
   pub fits : Fits d
   pub low : 1 ≤ u
   pub high : u ≤ d .n
+
+-- and a frame that it can write, or hear
+pub record CanWrite (d : Desk) (u : ℕ) : Type 0 where
+  pub unit : Named d u
+  pub room : d .count < 64
+
+pub record CanHear (d : Desk) (u f : ℕ) : Type 0 where
+  pub unit : Named d u
+  pub low : 1 ≤ f
+  pub high : f ≤ d .count
+
+-- any command
+pub record CanAct (d : Desk) : Type 0 where
+  pub fits : Fits d
+  pub room : d .count < 64
 
 -- `next` and `text` determine the result and every byte of the output; the others say what that means
 pub record Acts (d : Desk) (c : Command) (line : ℕ) (out : List ℕ) (r : Done) (out′ : List ℕ) : Type 0 where

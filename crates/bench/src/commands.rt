@@ -3,13 +3,13 @@ use crate::desk::Desk;
 use script::line::Line;
 use script::print;
 ghost use mathlib.Core.Path.{_≡_};
-ghost use Prim.Native.Nat.{_-_, _<_, _≤_, min};
+ghost use Prim.Native.Nat.{_-_, _≤_, min};
 ghost use lib.ListN.{length, drop};
 ghost use Rattle.rules.specs.Maps.{between};
 ghost use Rattle.script.specs.Items.{sends, arrives, requests, takes, unreadable};
 ghost use Rattle.script.specs.Shown.{said};
 ghost use Rattle.bench.specs.Desk.{Fits};
-ghost use Rattle.bench.specs.Commands.{Named, namesKnown, Acts};
+ghost use Rattle.bench.specs.Commands.{Named, CanWrite, CanHear, CanAct, namesKnown, Acts};
 
 // The next group, and how many bytes were printed.
 pub struct Done {
@@ -76,7 +76,7 @@ fn unknown(d: Desk, line: u32, out: &mut [u8]) -> Done
 }
 
 fn send(d: Desk, line: u32, u: u32, word: &[u8], out: &mut [u8]) -> Done
-    requires { ⌜ Named d u × (d .count < 64) × (84 ≤ length (now out)) ⌝ }
+    requires { ⌜ CanWrite d u × (84 ≤ length (now out)) ⌝ }
     ensures { λ r. ⌜ Acts d (sends u (now (word .entry))) line (now (out .entry)) r (now (out .exit)) ⌝ }
 {
     let i = (u as usize) - 1;
@@ -93,7 +93,7 @@ fn send(d: Desk, line: u32, u: u32, word: &[u8], out: &mut [u8]) -> Done
 }
 
 fn arrive(d: Desk, line: u32, u: u32, f: u32, out: &mut [u8]) -> Done
-    requires { ⌜ Named d u × (1 ≤ f) × (f ≤ d .count) × (84 ≤ length (now out)) ⌝ }
+    requires { ⌜ CanHear d u f × (84 ≤ length (now out)) ⌝ }
     ensures { λ r. ⌜ Acts d (arrives u f) line (now (out .entry)) r (now (out .exit)) ⌝ }
 {
     let i = (u as usize) - 1;
@@ -113,7 +113,7 @@ fn arrive(d: Desk, line: u32, u: u32, f: u32, out: &mut [u8]) -> Done
 }
 
 fn request(d: Desk, line: u32, u: u32, k: u32, out: &mut [u8]) -> Done
-    requires { ⌜ Named d u × (d .count < 64) × (84 ≤ length (now out)) ⌝ }
+    requires { ⌜ CanWrite d u × (84 ≤ length (now out)) ⌝ }
     ensures { λ r. ⌜ Acts d (requests u k) line (now (out .entry)) r (now (out .exit)) ⌝ }
 {
     let i = (u as usize) - 1;
@@ -152,7 +152,7 @@ fn take(d: Desk, line: u32, u: u32, out: &mut [u8]) -> Done
 
 // The command that a line shows; `text` is the line itself.
 pub fn act(d: Desk, line: u32, shown: Line, text: &[u8], out: &mut [u8]) -> Done
-    requires { ⌜ Fits d × (d .count < 64) × (84 ≤ length (now out)) ⌝ }
+    requires { ⌜ CanAct d × (84 ≤ length (now out)) ⌝ }
     ensures { λ r. ⌜ Acts d (said shown (now (text .entry))) line (now (out .entry)) r (now (out .exit)) ⌝ }
 {
     if !names(d.n, d.count, shown) {

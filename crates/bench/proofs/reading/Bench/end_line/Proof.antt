@@ -1,0 +1,85 @@
+use borrow.Author.Needs.{needs}
+use Rattle.bench.proofs.reading.Bench.end_line.Statement.{statement}
+use Rattle.bench.proofs.reading.Bench.end_line.Tie as tie
+use Rattle.bench.proofs.reading.Bench.end_line.Reads as reads
+use Rattle.bench.proofs.reading.Bench.end_line.Lts as lts
+use Rattle.bench.proofs.commands.act.Reads as act-reads
+use Rattle.bench.proofs.reading.begin.Reads as begin-reads
+use Rattle.script.proofs.collector.Collector.new.Reads as new-reads
+use Rattle.script.proofs.collector.Collector.read.Reads as read-reads
+use Rattle.script.proofs.collector.Collector.size.Reads as size-reads
+
+-- src/reading.rt:71:13
+read-requires : tie.Need-read-requires
+read-requires c κs = search needs
+
+-- src/reading.rt:74:13
+begin-requires : tie.Need-begin-requires
+begin-requires c κs = search needs
+
+-- src/reading.rt:74:13
+same-length : tie.Need-same-length
+same-length c = search needs
+
+-- src/reading.rt:74:13
+returns : tie.Need-returns
+returns c = search needs
+
+-- src/reading.rt:80:27
+new-requires : tie.Need-new-requires
+new-requires c κs = search needs
+
+-- src/reading.rt:78:13
+returns-2 : tie.Need-returns-2
+returns-2 c = search needs
+
+-- src/reading.rt:88:13
+size-requires : tie.Need-size-requires
+size-requires c κs = search needs
+
+-- src/reading.rt:89:52
+array-share-prefix-bytes : tie.Need-array-share-prefix-bytes
+array-share-prefix-bytes c = search needs
+
+-- src/reading.rt:89:52
+slice-aggregate-act : tie.Need-slice-aggregate-act
+slice-aggregate-act c = search needs
+
+-- src/reading.rt:89:13
+act-requires : tie.Need-act-requires
+act-requires c κs = search needs
+
+-- src/reading.rt:93:23
+new-requires-2 : tie.Need-new-requires-2
+new-requires-2 c κs = search needs
+
+-- src/reading.rt:95:25
+add-t21 : tie.Need-add-t21
+add-t21 c = search needs
+
+-- src/reading.rt:66:5
+same-length-2 : tie.Need-same-length-2
+same-length-2 c = search needs
+
+-- src/reading.rt:66:5
+returns-3 : tie.Need-returns-3
+returns-3 c = search needs
+
+pub end-line-spec : {M : Type 1} → statement M
+end-line-spec =
+    tie.close
+    (tie.spec
+    read-requires
+    begin-requires
+    same-length
+    returns
+    new-requires
+    returns-2
+    size-requires
+    array-share-prefix-bytes
+    slice-aggregate-act
+    act-requires
+    new-requires-2
+    add-t21
+    same-length-2
+    returns-3)

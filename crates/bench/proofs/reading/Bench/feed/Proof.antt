@@ -1,0 +1,95 @@
+use borrow.Author.Needs.{needs}
+use Rattle.bench.proofs.reading.Bench.feed.Statement.{statement}
+use Rattle.bench.proofs.reading.Bench.feed.Tie as tie
+use Rattle.bench.proofs.reading.Bench.feed.Reads as reads
+use Rattle.bench.proofs.reading.Bench.feed.Lts as lts
+use Rattle.bench.proofs.reading.Bench.end_line.Reads as end-line-reads
+use Rattle.script.proofs.collector.Collector.push.Reads as push-reads
+
+abbrev Inv-loop : tie.InvT-loop
+Inv-loop part out₀ b₀ len₀ i₀ out b len i = ?
+
+abbrev μ-loop : tie.MeasureT-loop
+μ-loop part out₀ b₀ len₀ i₀ out b len i = ?
+
+-- src/reading.rt:109:9
+loop-holds : tie.Need-loop-holds Inv-loop μ-loop
+loop-holds c = search needs
+
+-- src/reading.rt:110:21
+shared-slice-read-x : tie.Need-shared-slice-read-x Inv-loop μ-loop
+shared-slice-read-x c = search needs
+
+-- src/reading.rt:111:13
+add-i : tie.Need-add-i Inv-loop μ-loop
+add-i c = search needs
+
+-- src/reading.rt:114:21
+push-requires : tie.Need-push-requires Inv-loop μ-loop
+push-requires c κs = search needs
+
+-- src/reading.rt:109:9
+loop-less : tie.Need-loop-less Inv-loop μ-loop
+loop-less c = search needs
+
+-- src/reading.rt:109:9
+loop-again : tie.Need-loop-again Inv-loop μ-loop
+loop-again c = search needs
+
+-- src/reading.rt:118:32
+sub-end-line : tie.Need-sub-end-line Inv-loop μ-loop
+sub-end-line c = search needs
+
+-- src/reading.rt:118:32
+part-end-line-start : tie.Need-part-end-line-start Inv-loop μ-loop
+part-end-line-start c = search needs
+
+-- src/reading.rt:118:32
+part-end-line-end : tie.Need-part-end-line-end Inv-loop μ-loop
+part-end-line-end c = search needs
+
+-- src/reading.rt:118:17
+end-line-requires : tie.Need-end-line-requires Inv-loop μ-loop
+end-line-requires c κs = search needs
+
+-- src/reading.rt:121:13
+add-len : tie.Need-add-len Inv-loop μ-loop
+add-len c = search needs
+
+-- src/reading.rt:109:9
+loop-less-2 : tie.Need-loop-less-2 Inv-loop μ-loop
+loop-less-2 c = search needs
+
+-- src/reading.rt:109:9
+loop-again-2 : tie.Need-loop-again-2 Inv-loop μ-loop
+loop-again-2 c = search needs
+
+-- src/reading.rt:102:5
+same-length : tie.Need-same-length Inv-loop μ-loop
+same-length c = search needs
+
+-- src/reading.rt:102:5
+returns : tie.Need-returns Inv-loop μ-loop
+returns c = search needs
+
+pub feed-spec : {M : Type 1} → statement M
+feed-spec =
+    tie.close
+    (tie.spec
+    Inv-loop
+    μ-loop
+    loop-holds
+    shared-slice-read-x
+    add-i
+    push-requires
+    loop-less
+    loop-again
+    sub-end-line
+    part-end-line-start
+    part-end-line-end
+    end-line-requires
+    add-len
+    loop-less-2
+    loop-again-2
+    same-length
+    returns)

@@ -8,3 +8,4 @@ pub mod ActLaws
 pub mod NamesLaws
 pub mod ReadLaws
 pub mod FeedLaws
+pub mod LineLaws

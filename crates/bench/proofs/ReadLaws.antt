@@ -11,7 +11,8 @@ use lib.ListN.{length}
 use borrow.Author.Tests.{lt-ltb, le-ltb, eq-eqb, ne-eqb, leb-true}
 use Rattle.rules.specs.Message.{last}
 use Rattle.rules.specs.Sound.{rangesFit}
-use Rattle.rules.proofs.MapsLaws.{and-right, Lt?, lt, ge, lt?, Eq?, same, other, eq?}
+use Rattle.rules.proofs.MapsLaws.{and-left, and-right, Lt?, lt, ge, lt?, Eq?, same, other, eq?}
+use Rattle.rules.proofs.SoundLaws.{rangesFit-facts}
 use Rattle.script.specs.Lines.{lineFeed}
 use Rattle.script.specs.Items.{Command, groups, sends, arrives, requests, takes, unreadable}
 use Rattle.script.specs.Desk.{act}
@@ -35,11 +36,11 @@ use Rattle.bench.proofs.DeskLaws.{length-frames}
 
 -- ---- stages
 
-stage-later : (d : Desk) (k : ℕ) → 2 ≤ k → k ≤ 65 → stageOf d k ≡ later (deskOf d) k
+pub stage-later : (d : Desk) (k : ℕ) → 2 ≤ k → k ≤ 65 → stageOf d k ≡ later (deskOf d) k
 unfolding stageOf
 stage-later d k a b = rw (ne-eqb k 1 (λ e. omega arith), lt-ltb k 66 (omega arith))
 
-stage-over : (d : Desk) (k : ℕ) → 66 ≤ k → stageOf d k ≡ over
+pub stage-over : (d : Desk) (k : ℕ) → 66 ≤ k → stageOf d k ≡ over
 unfolding stageOf
 stage-over d k a = rw (ne-eqb k 1 (λ e. omega arith), le-ltb k 66 a)
 
@@ -61,9 +62,10 @@ unfolding emptied
 begun-empty = refl
 
 -- a group that is named is in range
-pub range-few : (n w : ℕ) → inRange n w ≡ true → n ≤ 3
+pub range-few : (n w : ℕ) → inRange n w ≡ true → (n ≤ 3) × (w ≤ 4)
 unfolding inRange
-range-few n w e = leb-true n 3 (and-right (rangesFit 1 n w) (leb n 3) e)
+range-few n w e =
+    (leb-true n 3 (and-right (rangesFit 1 n w) (leb n 3) e), rangesFit-facts 1 n w (and-left (rangesFit 1 n w) (leb n 3) e) .w-high)
 
 none≢some : {g : Group} → none ≡ some g → ⊥
 none≢some e =
@@ -76,7 +78,7 @@ group-few (groups n w) g e = go (inRange n w) refl e
     go : (t : Bool) → inRange n w ≡ t → cond t (some (record { n = n; w = w })) none ≡ some g → g .n ≤ 3
     go true r q =
         let same : n ≡ g .n = cc in
-        omega (arith, range-few n w r)
+        omega (arith, range-few n w r .0)
     go false r q = absurd (none≢some q)
 group-few (sends u word) g e = absurd (none≢some e)
 group-few (arrives u f) g e = absurd (none≢some e)

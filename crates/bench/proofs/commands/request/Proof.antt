@@ -1,3 +1,7 @@
+-- `commands::request` meets its contract: the frame that was written is the next one.
+use Rattle.bench.proofs.ActLaws.{did-acts, asked-did}
+use Rattle.bench.proofs.PrintLaws.{answer-short}
+use Rattle.bench.proofs.Shape.{shaped}
 use borrow.Author.Needs.{needs}
 use Rattle.bench.proofs.commands.request.Statement.{statement}
 use Rattle.bench.proofs.commands.request.Tie as tie
@@ -50,7 +54,15 @@ same-length c = search needs
 
 -- src/commands.rt:115:1
 returns : tie.Need-returns
-returns c = search needs
+returns c =
+    let start = c .before .before .before .before .before .before .before .before .before .before .before .before in
+    let d = start .args .t1 in
+    let long = shaped d _ (start .good .0 .1 .1) in
+    let h = c .before .before .before .before .before .before .before .request in
+    let A = rw (c .before .before .before .before .before .before .before .before .before .number-of .ensures) at (h .ensures) in
+    did-acts {line = start .args .line}
+    (asked-did d (start .args .u) (start .pre .0 .unit) (long .units) (start .pre .0 .room) (long .store) (long .lens) (start .args .k) (h .result) _ (c .before .before .before .before .before .before .frame2 .given) A)
+    (c .before .before .before .before .keep .ensures) (answer-short (start .args .line) (h .result .answer) (search needs) (search needs)) (start .pre .1) (c .before .before .answer-line .ensures)
 
 pub request-spec : {M : Type 1} → statement M
 request-spec =

@@ -1,3 +1,7 @@
+-- `commands::send` meets its contract: the unit is stored back, and the frame that was written is the next one.
+use Rattle.bench.proofs.ActLaws.{did-acts, sent-did}
+use Rattle.bench.proofs.PrintLaws.{answer-short}
+use Rattle.bench.proofs.Shape.{shaped}
 use borrow.Author.Needs.{needs}
 use Rattle.bench.proofs.commands.send.Statement.{statement}
 use Rattle.bench.proofs.commands.send.Tie as tie
@@ -53,7 +57,14 @@ same-length c = search needs
 
 -- src/commands.rt:78:1
 returns : tie.Need-returns
-returns c = search needs
+returns c =
+    let start = c .before .before .before .before .before .before .before .before .before .before .before .before .before in
+    let d = start .args .t1 in
+    let long = shaped d _ (start .good .0 .1 .1) in
+    let s = c .before .before .before .before .before .before .before .before .send in
+    did-acts {line = start .args .line}
+    (sent-did d (start .args .u) (start .pre .0 .unit) (long .units) (start .pre .0 .room) (long .store) (long .lens) (start .args .word .now) (s .result) _ (c .before .before .before .before .before .before .before .frame2 .given) (s .ensures))
+    (c .before .before .before .before .keep .ensures) (answer-short (start .args .line) (s .result .answer) (search needs) (search needs)) (start .pre .1) (c .before .before .answer-line .ensures)
 
 pub send-spec : {M : Type 1} → statement M
 send-spec =

@@ -1,3 +1,7 @@
+-- `reading::begin` meets its contract: a first line that names no group in range ends the script.
+use Rattle.bench.proofs.LineLaws.{begins-none, begins-group, group-range}
+use native.Mathlib.Omega.{arith}
+use mathlib.Core.Path.{sym, _∙_}
 use borrow.Author.Needs.{needs}
 use Rattle.bench.proofs.reading.begin.Statement.{statement}
 use Rattle.bench.proofs.reading.begin.Tie as tie
@@ -39,7 +43,7 @@ same-length c = search needs
 
 -- src/reading.rt:35:9
 returns : tie.Need-returns
-returns c = ?
+returns c = rw (sym (c .before .before .before .before .before .before .before .before .group-of .ensures) ∙ c .before .before .before .before .before .before .enum-told .given .1) (begins-none (c .before .before .before .before .before .before .before .before .before .before .pre) (c .before .before .before .before .before .new .ensures) (c .before .before .before .before .«open» .ensures) (c .before .before .no-group-line .ensures))
 
 -- src/reading.rt:46:19
 new-requires-2 : tie.Need-new-requires-2
@@ -47,11 +51,15 @@ new-requires-2 c κs = search needs
 
 -- src/reading.rt:47:30
 cast-open : tie.Need-cast-open
-cast-open c = ?
+cast-open c =
+    let range = group-range _ _ _ (sym (c .before .before .before .before .group-of .ensures) ∙ c .before .before .n .given .1) in
+    omega (arith, range .0)
 
 -- src/reading.rt:47:39
 cast-open-2 : tie.Need-cast-open-2
-cast-open-2 c = ?
+cast-open-2 c =
+    let range = group-range _ _ _ (sym (c .before .before .before .before .group-of .ensures) ∙ c .before .before .n .given .1) in
+    omega (arith, range .1)
 
 -- src/reading.rt:47:19
 open-requires-2 : tie.Need-open-requires-2
@@ -67,7 +75,11 @@ same-length-2 c = search needs
 
 -- src/reading.rt:30:1
 returns-2 : tie.Need-returns-2
-returns-2 c = ?
+returns-2 c =
+    let named = sym (c .before .before .before .before .before .before .before .before .before .group-of .ensures) ∙ c .before .before .before .before .before .before .before .n .given .1 in
+    let range = group-range _ _ _ named in
+    rw named
+    (begins-group (c .before .before .before .before .before .before .before .before .before .before .before .pre) (c .before .before .before .before .before .new2 .ensures) _ _ (range .0) (range .1) (c .before .before .before .before .open2 .ensures) (c .before .before .group-line .ensures))
 
 pub begin-spec : {M : Type 1} → statement M
 begin-spec =

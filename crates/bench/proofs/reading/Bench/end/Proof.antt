@@ -1,3 +1,5 @@
+-- `Bench::end` meets its contract: a line that is begun ends, an empty input names no group, and else nothing is printed.
+use Rattle.bench.proofs.LineLaws.{line-ends, first-ends, none-ends}
 use borrow.Author.Needs.{needs}
 use Rattle.bench.proofs.reading.Bench.end.Statement.{statement}
 use Rattle.bench.proofs.reading.Bench.end.Tie as tie
@@ -21,7 +23,7 @@ same-length c = search needs
 
 -- src/reading.rt:134:13
 returns : tie.Need-returns
-returns c = search needs
+returns c = line-ends _ (rw (c .before .before .before .before .before .size .ensures .0) at (c .before .before .before .before .if1 .taken)) (c .before .before .end-line .ensures)
 
 -- src/reading.rt:137:13
 no-group-line-requires : tie.Need-no-group-line-requires
@@ -33,11 +35,11 @@ same-length-2 c = search needs
 
 -- src/reading.rt:137:13
 returns-2 : tie.Need-returns-2
-returns-2 c = search needs
+returns-2 c = first-ends _ (rw (c .before .before .before .before .before .before .before .size .ensures .0) at (c .before .before .before .before .before .before .if1 .left)) (c .before .before .before .before .if2 .taken) (c .before .before .before .before .before .before .before .before .before .before .pre .1) (c .before .before .no-group-line .ensures)
 
 -- src/reading.rt:127:5
 returns-3 : tie.Need-returns-3
-returns-3 c = search needs
+returns-3 c = none-ends _ (rw (c .before .before .before .size .ensures .0) at (c .before .before .if1 .left)) (c .if2 .left)
 
 pub end-spec : {M : Type 1} → statement M
 end-spec =

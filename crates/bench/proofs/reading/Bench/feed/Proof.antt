@@ -1,3 +1,8 @@
+-- `Bench::feed` meets its contract. The invariant: what has been printed, and then what the rest of the part says, is what the part says.
+use Rattle.bench.proofs.FeedLaws.{Fed, fed-none, fed-push, fed-line, fed-all}
+use lib.ListN.{length}
+use native.Mathlib.Omega.{arith}
+use Prim.Native.Nat.{_-_}
 use borrow.Author.Needs.{needs}
 use Rattle.bench.proofs.reading.Bench.feed.Statement.{statement}
 use Rattle.bench.proofs.reading.Bench.feed.Tie as tie
@@ -7,14 +12,14 @@ use Rattle.bench.proofs.reading.Bench.end_line.Reads as end-line-reads
 use Rattle.script.proofs.collector.Collector.push.Reads as push-reads
 
 abbrev Inv-loop : tie.InvT-loop
-Inv-loop part out₀ b₀ len₀ i₀ out b len i = ?
+Inv-loop part out₀ b₀ len₀ i₀ out b len i = Fed b₀ part out₀ b len i out
 
 abbrev μ-loop : tie.MeasureT-loop
-μ-loop part out₀ b₀ len₀ i₀ out b len i = ?
+μ-loop part out₀ b₀ len₀ i₀ out b len i = length part - i
 
 -- src/reading.rt:109:9
 loop-holds : tie.Need-loop-holds Inv-loop μ-loop
-loop-holds c = search needs
+loop-holds c = fed-none _ _ _ (c .before .before .pre .0)
 
 -- src/reading.rt:110:21
 shared-slice-read-x : tie.Need-shared-slice-read-x Inv-loop μ-loop
@@ -34,15 +39,15 @@ loop-less c = search needs
 
 -- src/reading.rt:109:9
 loop-again : tie.Need-loop-again Inv-loop μ-loop
-loop-again c = search needs
+loop-again c = ?
 
 -- src/reading.rt:118:32
 sub-end-line : tie.Need-sub-end-line Inv-loop μ-loop
-sub-end-line c = search needs
+sub-end-line c = ?
 
 -- src/reading.rt:118:32
 part-end-line-start : tie.Need-part-end-line-start Inv-loop μ-loop
-part-end-line-start c = search needs
+part-end-line-start c = ?
 
 -- src/reading.rt:118:32
 part-end-line-end : tie.Need-part-end-line-end Inv-loop μ-loop
@@ -50,11 +55,11 @@ part-end-line-end c = search needs
 
 -- src/reading.rt:118:17
 end-line-requires : tie.Need-end-line-requires Inv-loop μ-loop
-end-line-requires c κs = search needs
+end-line-requires c κs = ?
 
 -- src/reading.rt:121:13
 add-len : tie.Need-add-len Inv-loop μ-loop
-add-len c = search needs
+add-len c = ?
 
 -- src/reading.rt:109:9
 loop-less-2 : tie.Need-loop-less-2 Inv-loop μ-loop
@@ -62,15 +67,15 @@ loop-less-2 c = search needs
 
 -- src/reading.rt:109:9
 loop-again-2 : tie.Need-loop-again-2 Inv-loop μ-loop
-loop-again-2 c = search needs
+loop-again-2 c = ?
 
 -- src/reading.rt:102:5
 same-length : tie.Need-same-length Inv-loop μ-loop
-same-length c = search needs
+same-length c = ?
 
 -- src/reading.rt:102:5
 returns : tie.Need-returns Inv-loop μ-loop
-returns c = search needs
+returns c = ?
 
 pub feed-spec : {M : Type 1} → statement M
 feed-spec =

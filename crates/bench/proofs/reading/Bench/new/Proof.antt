@@ -1,3 +1,5 @@
+-- `Bench::new` meets its contract: the first line is to come.
+use Rattle.bench.proofs.LineLaws.{starts-first}
 use borrow.Author.Needs.{needs}
 use Rattle.bench.proofs.reading.Bench.new.Statement.{statement}
 use Rattle.bench.proofs.reading.Bench.new.Tie as tie
@@ -16,7 +18,7 @@ open-requires c κs = search needs
 
 -- src/reading.rt:55:5
 returns : tie.Need-returns
-returns c = ?
+returns c = starts-first (c .before .new .ensures) (c .«open» .ensures)
 
 pub new-spec : {M : Type 1} → statement M
 new-spec = tie.close (tie.spec new-requires open-requires returns)

@@ -4,14 +4,17 @@ use mathlib.Core.List.{List, [], _∷_, _++_, append-nil, append-assoc}
 use mathlib.Core.Path.{_≡_, refl, sym, ap, _∙_}
 use Prim.Native.Nat.{ℕ, suc, _+_, _-_, _*_, _<_, _≤_}
 use native.Mathlib.Omega.{arith}
+use native.Mathlib.Nat.{le-trans}
 use native.Mathlib.Numerals.{add-one}
-use lib.ListN.{length, getD, take, drop, length-append}
+use lib.ListN.{length, getD, take, drop, length-append, length-drop, drop-of-length-le}
 use lib.Seq.{drop-cons, drop-length, take-append-seam, drop-append-seam, drop-drop}
 use borrow.Author.Tests.{eq-eqb, ne-eqb}
+use borrow.Rule.Slice.PartMut.{midOf, putMid, same-len-mid}
 use Rattle.rules.specs.Calls.{written}
 use Rattle.script.specs.Lines.{lineFeed}
 use Rattle.script.specs.Gathered.{begunOf, pushed}
 use Rattle.script.specs.Reader.{longer, Read, readLine, readByte, readPart}
+use Rattle.script.proofs.CommandLaws.{take-rest}
 use Rattle.bench.specs.declared.reading.Bench.{Bench}
 use Rattle.bench.specs.declared.reading.Told.{Told}
 use Rattle.bench.specs.Prints.{Prints}
@@ -21,6 +24,10 @@ use Rattle.bench.specs.Reading.{readerOf, Ready, Said, asScript, lineSai
 
 pub prints-none : (out : List ℕ) → Prints [] out 0 out
 prints-none out = record { count = refl; bytes = refl }
+
+length-printed : {text out after : List ℕ} {len : ℕ} → Prints text out len after → len ≤ length out → length after ≡ length out
+length-printed {text} {out} p h =
+    ap length (p .bytes) ∙ length-append text (drop (length text) out) ∙ omega (arith, p .count, length-drop (length text) out)
 
 pub prints-then : {text more out mid after : List ℕ} {len m : ℕ} → Prints text out len mid → Prints more (drop len mid) m after
     → Prints (text ++ more) out (len + m) (take len mid ++ after)
@@ -53,6 +60,7 @@ andRead s l = record { next = readPart (s .next) l .next; text = s .text ++ read
 pub record Fed (b₀ : Bench) (part out₀ : List ℕ) (b : Bench) (len i : ℕ) (out : List ℕ) : Type 0 where
   pub text : List ℕ
   pub printed : Prints text out₀ len out
+  pub long : length out ≡ length out₀
   pub within : i ≤ length part
   pub short : len ≤ 84 * i
   pub ready : Ready b
@@ -61,7 +69,7 @@ pub record Fed (b₀ : Bench) (part out₀ : List ℕ) (b : Bench) (len i : ℕ)
 
 module _ (b₀ : Bench) (part out₀ : List ℕ) where
   pub fed-none : Ready b₀ → Fed b₀ part out₀ b₀ 0 0 out₀
-  fed-none r = record { text = []; printed = prints-none out₀; within = omega arith; short = omega arith; ready = r; exact = refl; means = refl }
+  fed-none r = record { text = []; printed = prints-none out₀; long = refl; within = omega arith; short = omega arith; ready = r; exact = refl; means = refl }
 
   module _ (b : Bench) (len i : ℕ) (out : List ℕ) (f : Fed b₀ part out₀ b len i out) where
     abbrev x : ℕ
@@ -92,6 +100,10 @@ module _ (b₀ : Bench) (part out₀ : List ℕ) where
     push-ready : Ready (pushedTo b x)
     push-ready = record { desk = f .ready .desk; some = f .ready .some; most = f .ready .most; frames = f .ready .frames }
 
+    -- there is room for a line
+    pub room-left : i < length part → 84 * length part ≤ length out₀ → 84 ≤ length (midOf len (length out - len) out)
+    room-left h room = rw (take-rest len out) (omega (arith, length-drop len out, f .short, f .long))
+
     -- any other byte belongs to the line
     module _ (h : i < length part) (apart : x ≡ lineFeed → ⊥) where
       push-said : byteSaid b x ≡ record { next = pushedTo b x; text = [] }
@@ -107,6 +119,7 @@ module _ (b₀ : Bench) (part out₀ : List ℕ) where
           record {
             text = f .text;
             printed = f .printed;
+            long = f .long;
             within = omega arith;
             short = omega (arith, f .short);
             ready = push-ready;
@@ -124,12 +137,18 @@ module _ (b₀ : Bench) (part out₀ : List ℕ) where
       unfolding readByte
       line-read = rw (eq-eqb x lineFeed ends)
 
-      pub fed-line : (r : Told) (after : List ℕ) → Reads (lineSaid b) (readLine (readerOf b)) 84 (drop len out) r after
-          → Fed b₀ part out₀ (r .bench) (len + r .len) (i + 1) (take len out ++ after)
-      fed-line r after t =
+      nothing-behind : drop (length out - len) (drop len out) ≡ []
+      nothing-behind = drop-of-length-le (drop len out) {i = length out - len} (omega (arith, length-drop len out))
+
+      -- its text goes to what is left of the output
+      pub fed-line : 84 * length part ≤ length out₀ → (r : Told) (after : List ℕ)
+          → Reads (lineSaid b) (readLine (readerOf b)) 84 (midOf len (length out - len) out) r after
+          → Fed b₀ part out₀ (r .bench) (len + r .len) (i + 1) (putMid len (length out - len) out after)
+      fed-line room r after t =
           record {
             text = f .text ++ lineSaid b .text;
-            printed = prints-then (f .printed) (t .tells .text);
+            printed = rw (nothing-behind, append-nil) (prints-then (f .printed) (rw (take-rest len out) at (t .tells .text)));
+            long = same-len-mid len (length out - len) out after (length-printed (t .tells .text) (le-trans (t .tells .short) (room-left h room))) ∙ f .long;
             within = omega arith;
             short = omega (arith, f .short, t .tells .short);
             ready = t .tells .ready;

@@ -9,3 +9,4 @@ pub mod NamesLaws
 pub mod ReadLaws
 pub mod FeedLaws
 pub mod LineLaws
+pub mod RunLaws

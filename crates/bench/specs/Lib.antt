@@ -3,3 +3,4 @@ pub mod Prints
 pub mod Desk
 pub mod Commands
 pub mod Reading
+pub mod Runs

@@ -7,6 +7,7 @@ use libc::STDIN_FILENO;
 use libc::STDOUT_FILENO;
 use reading::Bench;
 ghost use Rattle.bench.specs.Reading.{Ready};
+ghost use Rattle.bench.specs.Runs.{Turns};
 
 // The bench after one part, and whether there may be more to print.
 struct Next {
@@ -17,7 +18,7 @@ struct Next {
 // Reads a part of the input, and prints what it prints. Where the input has ended, it prints the end.
 fn turn(b: Bench) -> Next
     requires { ⌜ Ready b ⌝ }
-    ensures { λ r. ⌜ Ready (r .bench) ⌝ }
+    ensures { λ r. ⌜ Turns b r ⌝ }
 {
     let mut part = [0u8; 64];
     let mut out = [0u8; 5376];

@@ -83,7 +83,7 @@ pub begun-long : (c : Collector) → c .long ≡ true → Unreadable ≡ shown (
 unfolding shown commandIn
 begun-long c h = rw h
 
-take-length-take : (n : ℕ) (l : List ℕ) → take (length (take n l)) l ≡ take n l
+pub take-length-take : (n : ℕ) (l : List ℕ) → take (length (take n l)) l ≡ take n l
 take-length-take zero l = refl
 take-length-take (suc n) [] = refl
 take-length-take (suc n) (x ∷ l) = ap (λ (r : List ℕ). x ∷ r) (take-length-take n l)

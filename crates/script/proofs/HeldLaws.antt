@@ -46,7 +46,7 @@ module _ (s : State) (out : List ℕ) where
   unfolding makeRequest makeChecks
   asks-nobody k h e = rw (e, above-between 1 (s .n) k (omega (arith, sound-facts s e .ranges .n-high)))
 
-  asks-past : (k j : ℕ) → 8 < k → 8 < j → makeRequest s k out ≡ makeRequest s j out
+  pub asks-past : (k j : ℕ) → 8 < k → 8 < j → makeRequest s k out ≡ makeRequest s j out
   asks-past k j h i = go (sound s) refl
     where
       go : (t : Bool) → sound s ≡ t → makeRequest s k out ≡ makeRequest s j out

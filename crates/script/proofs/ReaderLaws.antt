@@ -129,13 +129,13 @@ rest-told (b ∷ l) p s = go (eq? b lineFeed) (λ q t. rest-told l q t)
 -- ---- parts
 
 module _ {A : Type 0} (f : Reader → A → Read) where
-  readEach-++ : (l m : List A) (r : Reader)
+  pub readEach-++ : (l m : List A) (r : Reader)
       → readEach f r (l ++ m)
       ≡ record { next = readEach f (readEach f r l .next) m .next; text = readEach f r l .text ++ readEach f (readEach f r l .next) m .text }
   readEach-++ [] m r = refl
   readEach-++ (x ∷ l) m r = rw (readEach-++ l m (f r x .next), append-assoc) refl
 
-readParts-flatten : (ps : List (List ℕ)) (r : Reader) → readParts r ps ≡ readPart r (flatten ps)
+pub readParts-flatten : (ps : List (List ℕ)) (r : Reader) → readParts r ps ≡ readPart r (flatten ps)
 unfolding flatten
 readParts-flatten [] r = refl
 readParts-flatten (p ∷ ps) r = rw (readEach-++ readByte p (flatten ps) r, readParts-flatten ps (readPart r p .next)) refl

@@ -1,0 +1,77 @@
+// The group on the bench: its units, and the frames written so far.
+use state::Opening;
+use unit::Unit;
+ghost use mathlib.Core.Path.{_≡_};
+ghost use Prim.Native.Nat.{_*_, _<_, _≤_};
+ghost use lib.ListN.{length};
+ghost use lib.Seq.{sets};
+ghost use Rattle.bench.specs.Desk.{startedUnit, startedDesk, keptIn};
+
+// Unit u is `units[u - 1]`, closed where u is more than n. Frame f stands in the store from 117 (f - 1) on.
+pub struct Desk {
+    pub n: u8,
+    pub units: [Unit; 3],
+    pub store: [u8; 7488],
+    pub lens: [usize; 64],
+    pub count: usize,
+}
+
+// Unit `me` of a group: CID 1, first numbers 1; closed where there is no such unit.
+fn opened_unit(me: u8, n: u8, w: u8) -> Unit
+    ensures { λ r. ⌜ r ≡ startedUnit me n w ⌝ }
+{
+    let o = Unit::open(Opening {
+        me,
+        n,
+        w,
+        cid: 1,
+        first: [1u32; 8],
+    });
+    let u = o.unit;
+    u
+}
+
+// Copies a frame, and what follows it, into its slot of the store.
+fn put_frame(store: &mut [u8; 7488], slot: usize, frame: &[u8])
+    requires { ⌜ (slot < 64) × (length (now frame) ≤ 117) ⌝ }
+    ensures { λ r. ⌜ now (store .exit) ≡ sets (now (store .entry)) (117 * slot) (now (frame .entry)) ⌝ }
+{
+    let mut i = 0;
+    while i < frame.len() {
+        store[117 * slot + i] = frame[i];
+        i += 1;
+    }
+}
+
+impl Desk {
+    // A group of n units with window w, and no frame yet.
+    pub fn open(n: u8, w: u8) -> Self
+        ensures { λ r. ⌜ r ≡ startedDesk n w ⌝ }
+    {
+        let a = opened_unit(1, n, w);
+        let b = opened_unit(2, n, w);
+        let c = opened_unit(3, n, w);
+        Self {
+            n,
+            units: [a, b, c],
+            store: [0u8; 7488],
+            lens: [0usize; 64],
+            count: 0,
+        }
+    }
+
+    // Where a call answered 0, the len bytes that it wrote are the next frame.
+    pub fn keep(mut self, answer: u32, frame: &[u8], len: usize) -> Self
+        requires { ⌜ (self .count < 64) × (length (now frame) ≤ 117) ⌝ }
+        ensures { λ r. ⌜ r ≡ keptIn self answer (now (frame .entry)) len ⌝ }
+    {
+        if answer != 0 {
+            return self;
+        }
+        let slot = self.count;
+        put_frame(&mut self.store, slot, frame);
+        self.lens[slot] = len;
+        self.count = slot + 1;
+        self
+    }
+}

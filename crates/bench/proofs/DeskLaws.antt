@@ -92,7 +92,7 @@ frames-same store lens store′ lens′ (suc m) h =
 
 -- a frame of len bytes, in the next slot
 module _ (d : Desk) (fits : Fits d) (room : d .count < 64) (store-long : length (d .store) ≡ 7488) (lens-long : length (d .lens) ≡ 64)
-  (l : List ℕ) (l-long : length l ≡ 117) (len : ℕ) (short : len ≤ 117) where
+    (l : List ℕ) (l-long : length l ≡ 117) (len : ℕ) (short : len ≤ 117) where
   abbrev store′ : List ℕ
   store′ = sets (d .store) (117 * d .count) l
 

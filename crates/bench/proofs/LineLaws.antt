@@ -110,12 +110,12 @@ module _ (b : Bench) {out : List ℕ} where
   later-reads fresh R low high a =
       record {
         tells = rw (later-said b low high)
-        (record {
-          next = rw (fresh, a .next);
-          text = a .text;
-          short = a .short;
-          ready = record { desk = a .fits; some = omega arith; most = omega arith; frames = omega (arith, a .more, R .frames) };
-        });
+            (record {
+              next = rw (fresh, a .next);
+              text = a .text;
+              short = a .short;
+              ready = record { desk = a .fits; some = omega arith; most = omega arith; frames = omega (arith, a .more, R .frames) };
+            });
         means = later-read b low high (R .desk) (a .means);
       }
 

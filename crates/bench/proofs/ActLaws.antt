@@ -1,16 +1,15 @@
 -- What a command does with the group as the code holds it is what it does on the script's desk.
-use mathlib.Core.Bool.{Bool, true, false, cond, _&&_}
-use mathlib.Core.List.{List, [], _∷_, _++_, append-nil}
+use mathlib.Core.Bool.{Bool, true}
+use mathlib.Core.List.{List, append-nil}
 use mathlib.Core.Path.{_≡_, refl, sym, ap, _∙_}
-use Prim.Native.Nat.{ℕ, _+_, _-_, _*_, _<_, _≤_, min}
+use Prim.Native.Nat.{ℕ, _+_, _-_, _<_, _≤_, min}
 use native.Mathlib.Omega.{arith}
 use native.Mathlib.Nat.{le-trans}
-use lib.Dec.{eqb}
-use lib.ListN.{length, getD, take, set}
+use lib.ListN.{length, take}
 use borrow.Author.Tests.{eq-eqb, ne-eqb}
-use Rattle.rules.specs.Maps.{between, upd, at}
+use Rattle.rules.specs.Maps.{between, at}
 use Rattle.rules.specs.State.{State}
-use Rattle.rules.specs.Calls.{Result, send, arrive, makeRequest}
+use Rattle.rules.specs.Calls.{send, arrive, makeRequest}
 use Rattle.rules.specs.Calls as rules
 use Rattle.rules.proofs.MapsLaws.{Lt?, lt, ge, lt?, is-between}
 use Rattle.handing.specs.declared.Handed.{Handed}
@@ -28,7 +27,7 @@ use Rattle.script.specs.Written.{Wrote}
 use Rattle.script.proofs.HeldLaws.{asks-past}
 use Rattle.bench.specs.declared.desk.Desk.{Desk}
 use Rattle.bench.specs.declared.commands.Done.{Done}
-use Rattle.bench.specs.Desk.{unitAt, unitsOf, frameIn, framesIn, deskOf, Fits, withUnit, keptIn}
+use Rattle.bench.specs.Desk.{unitAt, unitsOf, frameIn, deskOf, Fits, withUnit}
 use Rattle.bench.specs.Commands.{Acted, asScript, ignored, afterSend, afterArrival, afterRequest, afterTake, actedOf, Named, Acts}
 use Rattle.bench.proofs.PrintLaws.{wrote-prints}
 use Rattle.bench.proofs.LengthLaws.{sent-len, asked-len}

@@ -1,7 +1,6 @@
 -- What the group shows with another unit, and with a frame more.
 use mathlib.Core.Bool.{Bool, true, false, cond}
 use mathlib.Core.List.{List, [], _∷_, _++_, append-nil}
-use mathlib.Core.Logic.{_≢_}
 use mathlib.Core.Path.{_≡_, refl, sym, ap, _∙_, fun-ext}
 use Prim.Native.Nat.{ℕ, zero, suc, _+_, _-_, _*_, _<_, _≤_}
 use native.Mathlib.Omega.{arith}
@@ -9,8 +8,8 @@ use native.Mathlib.Numerals.{add-one}
 use lib.Dec.{eqb}
 use lib.ListN.{length, getD, take, drop, set, length-append, length-drop, List·getD-append}
 use lib.Seq.{sets, ext-getD, getD-take, getD-drop, getD-set-same, getD-set-other, getD-at, set-getD, length-take-le}
-use Rattle.rules.specs.Maps.{between, upd}
-use Rattle.rules.specs.State.{State, closed}
+use Rattle.rules.specs.Maps.{upd}
+use Rattle.rules.specs.State.{closed}
 use Rattle.rules.proofs.MapsLaws.{Lt?, lt, ge, lt?, Eq?, same, other, eq?, is-between, length-listed, getD-listed}
 use Rattle.tables.specs.Rows.{part}
 use Rattle.tables.proofs.GridLaws.{Unit?, inside, outside, unit?}

@@ -1,8 +1,7 @@
 -- A part of the input, byte by byte: what has been printed, and what is still to be read.
-use mathlib.Core.Bool.{true, false}
 use mathlib.Core.List.{List, [], _∷_, _++_, append-nil, append-assoc}
 use mathlib.Core.Path.{_≡_, refl, sym, ap, _∙_}
-use Prim.Native.Nat.{ℕ, suc, _+_, _-_, _*_, _<_, _≤_}
+use Prim.Native.Nat.{ℕ, _+_, _-_, _*_, _<_, _≤_}
 use native.Mathlib.Omega.{arith}
 use native.Mathlib.Nat.{le-trans}
 use native.Mathlib.Numerals.{add-one}
@@ -18,7 +17,7 @@ use Rattle.script.proofs.CommandLaws.{take-rest}
 use Rattle.bench.specs.declared.reading.Bench.{Bench}
 use Rattle.bench.specs.declared.reading.Told.{Told}
 use Rattle.bench.specs.Prints.{Prints}
-use Rattle.bench.specs.Reading.{readerOf, Ready, Said, asScript, lineSaid, pushedTo, byteSaid, partSaid, Tells, Reads}
+use Rattle.bench.specs.Reading.{readerOf, Ready, Said, asScript, lineSaid, pushedTo, byteSaid, partSaid, Reads}
 
 -- ---- one text after the other
 

@@ -1,19 +1,19 @@
 -- What the end of a line, and of the input, does on the bench is what it does at the script's reader.
 use mathlib.Core.Bool.{Bool, true, false, cond}
 use mathlib.Core.List.{List, []}
-use mathlib.Core.Path.{_≡_, refl, sym, ap, _∙_}
-use Prim.Native.Nat.{ℕ, _+_, _-_, _<_, _≤_}
+use mathlib.Core.Path.{_≡_, refl, ap}
+use Prim.Native.Nat.{ℕ, _+_, _<_, _≤_}
 use native.Mathlib.Omega.{arith}
 use native.Mathlib.Nat.{le-trans}
-use lib.Dec.{eqb, ltb}
-use lib.ListN.{length, take}
+use lib.Dec.{ltb}
+use lib.ListN.{length}
 use borrow.Author.Tests.{lt-ltb, le-ltb, eq-eqb, ne-eqb}
 use Rattle.script.specs.Script.{inRange}
 use Rattle.script.specs.Print.{groupLine, noGroupLine}
-use Rattle.script.specs.Shown.{shown, said, groupIn}
+use Rattle.script.specs.Shown.{shown, groupIn}
 use Rattle.script.specs.Written.{Wrote}
 use Rattle.script.specs.Gathered.{emptied, begunOf}
-use Rattle.script.specs.Reader.{commandIn, first, later, over, closes, Read, readLine, ends}
+use Rattle.script.specs.Reader.{commandIn, later, over, closes, Read, readLine, ends}
 use Rattle.script.specs.declared.line.Line.{Line}
 use Rattle.script.specs.declared.line.Line.the-variants.{Group, Send, Arrive, Request, Take, Unreadable}
 use Rattle.script.specs.declared.line.Group.{Group as Opening}
@@ -23,13 +23,12 @@ use Rattle.bench.specs.declared.desk.Desk.{Desk}
 use Rattle.bench.specs.declared.commands.Done.{Done}
 use Rattle.bench.specs.declared.reading.Bench.{Bench}
 use Rattle.bench.specs.declared.reading.Told.{Told}
-use Rattle.bench.specs.Prints.{Prints}
 use Rattle.bench.specs.Desk.{deskOf, startedDesk}
-use Rattle.bench.specs.Commands.{actedOf, Acts}
-use Rattle.bench.specs.Reading.{stageOf, readerOf, Ready, Said, asScript, before, beginsWith, commandOf, lineSaid, endSaid, Starts, Tells, Reads, Ends}
+use Rattle.bench.specs.Commands.{Acts}
+use Rattle.bench.specs.Reading.{stageOf, readerOf, Ready, beginsWith, commandOf, lineSaid, endSaid, Starts, Tells, Reads, Ends}
 use Rattle.bench.proofs.PrintLaws.{wrote-prints, no-group-short, group-short}
 use Rattle.bench.proofs.StartLaws.{started-fits}
-use Rattle.bench.proofs.ReadLaws.{stage-later, stage-over, range-few, first-said, first-read, later-said, later-read, over-said, over-read}
+use Rattle.bench.proofs.ReadLaws.{range-few, first-said, first-read, later-said, later-read, over-said, over-read}
 use Rattle.bench.proofs.FeedLaws.{prints-none}
 
 -- ---- the first line

@@ -1,9 +1,8 @@
 -- A line that names a unit or a frame that does not exist does nothing.
-use mathlib.Core.Bool.{Bool, true, false, cond, _&&_, true≢false}
+use mathlib.Core.Bool.{true, false, _&&_}
 use mathlib.Core.List.{List}
 use mathlib.Core.Path.{_≡_, refl, sym, ap, _∙_}
 use Prim.Native.Nat.{ℕ}
-use lib.ListN.{length}
 use Rattle.rules.specs.Maps.{between}
 use Rattle.rules.proofs.MapsLaws.{and-left, and-right, between-low, between-high}
 use Rattle.script.specs.Items.{Command, groups, unreadable}
@@ -14,7 +13,7 @@ use Rattle.script.specs.declared.line.Line.the-variants.{Group, Send, Arrive, R
 use Rattle.bench.specs.declared.desk.Desk.{Desk}
 use Rattle.bench.specs.declared.commands.Done.{Done}
 use Rattle.bench.specs.Desk.{deskOf, Fits}
-use Rattle.bench.specs.Commands.{asScript, ignored, actedOf, namesKnown, Named, CanHear, Acts}
+use Rattle.bench.specs.Commands.{ignored, actedOf, namesKnown, Named, CanHear, Acts}
 use Rattle.bench.proofs.DeskLaws.{length-frames}
 
 -- nothing is done, here and on the script's desk

@@ -1,12 +1,11 @@
 -- No line that is printed is longer than 84 bytes, so that an output of 84 bytes has room for each.
 use mathlib.Core.List.{List, [], _∷_}
-use mathlib.Core.Path.{_≡_, ap, _∙_}
-use Prim.Native.Nat.{ℕ, _+_, _<_, _≤_}
+use Prim.Native.Nat.{ℕ, _<_, _≤_}
 use native.Mathlib.Omega.{arith}
 use lib.ListN.{length, take, length-take}
 use borrow.Author.Tests.{le-leb}
 use Rattle.script.specs.Desk.{unknown, answers, took}
-use Rattle.script.specs.Print.{text, decimal, groupLine, noGroupLine, replyItems, replyLine}
+use Rattle.script.specs.Print.{text, decimal, groupLine, noGroupLine, replyLine}
 use Rattle.script.specs.Written.{Wrote}
 use Rattle.script.proofs.PrintLaws.{length-decimal}
 use Rattle.script.proofs.WrittenLaws.{length-joined, length-joined-last, length-taken}

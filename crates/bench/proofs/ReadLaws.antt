@@ -1,28 +1,24 @@
 -- What the code holds and prints is what the script's reader holds and prints.
 use mathlib.Core.Bool.{Bool, true, false, cond}
-use mathlib.Core.List.{List, [], _∷_, _++_, append-nil, append-assoc}
+use mathlib.Core.List.{[]}
 use mathlib.Core.Option.{Option, none, some}
 use mathlib.Core.Path.{_≡_, refl, sym, ap, _∙_}
-use Prim.Native.Nat.{ℕ, suc, _+_, _-_, _<_, _≤_}
+use Prim.Native.Nat.{ℕ, suc, _+_, _≤_}
 use native.Mathlib.Omega.{arith}
 use native.Mathlib.Numerals.{add-one}
-use lib.Dec.{eqb, leb, ltb}
-use lib.ListN.{length}
+use lib.Dec.{leb, ltb}
 use borrow.Author.Tests.{lt-ltb, le-ltb, eq-eqb, ne-eqb, leb-true}
-use Rattle.rules.specs.Message.{last}
 use Rattle.rules.specs.Sound.{rangesFit}
-use Rattle.rules.proofs.MapsLaws.{and-left, and-right, Lt?, lt, ge, lt?, Eq?, same, other, eq?}
+use Rattle.rules.proofs.MapsLaws.{and-left, and-right, Lt?, lt, ge, lt?, same}
 use Rattle.rules.proofs.SoundLaws.{rangesFit-facts}
-use Rattle.script.specs.Lines.{lineFeed}
 use Rattle.script.specs.Items.{Command, groups, sends, arrives, requests, takes, unreadable}
 use Rattle.script.specs.Desk.{act}
 use Rattle.script.specs.Desk as script
 use Rattle.script.specs.Print.{replyLine}
 use Rattle.script.specs.Script.{Group, groupOf, inRange}
-use Rattle.script.specs.Shown.{shown, said, groupIn}
-use Rattle.script.specs.Gathered.{emptied, begunOf, pushed}
-use Rattle.script.specs.Reader.{Begun, empty, longer, commandIn, Stage, first, later, over, Told, begins, tells, closes, Reader, Read, readLine, readByte, readPart, ends}
-use Rattle.script.specs.declared.line.Line.{Line}
+use Rattle.script.specs.Shown.{shown, groupIn}
+use Rattle.script.specs.Gathered.{emptied, begunOf}
+use Rattle.script.specs.Reader.{Begun, empty, commandIn, Stage, later, over, Told, begins, tells, Read, readLine}
 use Rattle.script.specs.declared.line.Group.{Group as Opening}
 use Rattle.script.proofs.SaidLaws.{act-said, shownGroup, groupIn-shown}
 use Rattle.bench.specs.declared.desk.Desk.{Desk}
@@ -30,7 +26,7 @@ use Rattle.bench.specs.declared.reading.Bench.{Bench}
 use Rattle.bench.specs.Desk.{deskOf, Fits, startedDesk}
 use Rattle.bench.specs.Commands as commands
 use Rattle.bench.specs.Commands.{actedOf}
-use Rattle.bench.specs.Reading.{stageOf, readerOf, Ready, Said, asScript, before, beginsWith, commandOf, afterLine, lineSaid, pushedTo, byteSaid, partSaid, endSaid}
+use Rattle.bench.specs.Reading.{stageOf, readerOf, asScript, before, beginsWith, commandOf, afterLine, lineSaid}
 use Rattle.bench.proofs.StartLaws.{started-means}
 use Rattle.bench.proofs.DeskLaws.{length-frames}
 

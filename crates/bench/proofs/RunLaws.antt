@@ -1,19 +1,18 @@
 -- What a whole run prints is what 01 says of the whole input.
 use mathlib.Core.Bool.{Bool}
-use mathlib.Core.List.{List, [], _∷_, _++_, append-nil, append-assoc, flatten}
+use mathlib.Core.List.{List, [], _++_, append-nil, flatten}
 use mathlib.Core.Path.{_≡_, refl, sym, ap, _∙_}
 use Prim.Native.Nat.{ℕ, _≤_}
-use native.Mathlib.Omega.{arith}
 use lib.ListN.{length, take, drop}
 use lib.Seq.{take-append-seam}
 use Rattle.script.specs.Script.{printed}
 use Rattle.script.specs.Gathered.{begunOf}
-use Rattle.script.specs.Reader.{over, Reader, start, Read, readPart, readParts, ends, printedParts}
+use Rattle.script.specs.Reader.{Reader, start, Read, readPart, readParts, ends, printedParts}
 use Rattle.script.proofs.ReaderLaws.{Silent, readEach-++, readParts-flatten, printedParts-printed, over-silent}
 use Rattle.bench.specs.declared.reading.Bench.{Bench}
 use Rattle.bench.specs.declared.reading.Told.{Told}
 use Rattle.bench.specs.Prints.{Prints}
-use Rattle.bench.specs.Reading.{stageOf, readerOf, Ready, partSaid, Starts, Reads, Ends}
+use Rattle.bench.specs.Reading.{readerOf, Ready, partSaid, Starts, Reads, Ends}
 use Rattle.bench.specs.Runs.{Turns, Run, none, then}
 use Rattle.bench.proofs.ReadLaws.{stage-over}
 

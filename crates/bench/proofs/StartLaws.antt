@@ -1,14 +1,13 @@
 -- A group that is opened shows the script's desk as it is opened.
-use mathlib.Core.Bool.{Bool, true, false, cond, not, _&&_}
-use mathlib.Core.List.{List, [], _∷_}
+use mathlib.Core.Bool.{Bool, true, false, cond, _&&_}
+use mathlib.Core.List.{List}
 use mathlib.Core.Path.{_≡_, refl, sym, ap, _∙_, fun-ext}
 use Prim.Native.Nat.{ℕ, zero, suc, _-_, _≤_}
 use native.Mathlib.Omega.{arith}
-use lib.Dec.{leb}
 use lib.ListN.{getD, replicate, getD-replicate}
 use Rattle.rules.specs.Maps.{between, at, every, units}
 use Rattle.rules.specs.Message.{last}
-use Rattle.rules.specs.State.{State, opened, closed}
+use Rattle.rules.specs.State.{opened, closed}
 use Rattle.rules.specs.Sound.{rangesFit}
 use Rattle.rules.specs.Calls.{Opened, openChecks, opening}
 use Rattle.rules.proofs.MapsLaws.{and-false, between-low, between-high, not-true}
@@ -21,7 +20,6 @@ use Rattle.unit.specs.declared.Unit.{Unit}
 use Rattle.unit.specs.View.{view}
 use Rattle.unit.specs.Exact.{openedOf}
 use Rattle.script.specs.Desk.{openedDesk}
-use Rattle.bench.specs.declared.desk.Desk.{Desk}
 use Rattle.bench.specs.Desk.{noUnit, unitsOf, framesIn, deskOf, startedUnit, startedDesk, Fits}
 
 -- ---- first numbers past n are not looked at

@@ -2,7 +2,7 @@
 use mathlib.Core.Bool.{cond}
 use mathlib.Core.List.{List, [], _∷_, _++_}
 use mathlib.Core.Path.{_≡_}
-use Prim.Native.Nat.{ℕ, suc, _+_, _-_, _*_, _≤_}
+use Prim.Native.Nat.{ℕ, _+_, _-_, _≤_}
 use lib.Dec.{eqb, ltb}
 use lib.ListN.{length}
 use Rattle.script.specs.Lines.{lineFeed}
@@ -10,11 +10,9 @@ use Rattle.script.specs.Items.{Command}
 use Rattle.script.specs.Print.{groupLine, noGroupLine, replyLine}
 use Rattle.script.specs.Shown.{shown, said, groupIn}
 use Rattle.script.specs.Gathered.{emptied, begunOf, pushed}
-use Rattle.script.specs.Reader.{Begun, commandIn, Stage, first, later, over, Reader, start, Read, readLine, readPart, ends}
-use Rattle.script.specs.declared.line.Line.{Line}
+use Rattle.script.specs.Reader.{Begun, commandIn, Stage, first, later, over, Reader, start, Read, ends}
 use Rattle.script.specs.declared.line.Group.{Group}
 use Rattle.script.specs.declared.line.Group.the-variants.{Of, None}
-use Rattle.script.specs.declared.collector.Collector.{Collector}
 use Rattle.bench.specs.declared.desk.Desk.{Desk}
 use Rattle.bench.specs.declared.reading.Bench.{Bench}
 use Rattle.bench.specs.declared.reading.Told.{Told}

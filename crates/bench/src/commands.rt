@@ -2,6 +2,7 @@
 use crate::desk::Desk;
 use script::line::Line;
 use script::print;
+use unit::Unit;
 ghost use mathlib.Core.Path.{_≡_};
 ghost use Prim.Native.Nat.{_-_, _≤_, min};
 ghost use lib.ListN.{length, drop};
@@ -81,7 +82,7 @@ fn send(d: Desk, line: u32, u: u32, word: &[u8], out: &mut [u8]) -> Done
 {
     let i = (u as usize) - 1;
     let x = d.units[i];
-    let mut frame = [0u8; 117];
+    let mut frame = [0u8; Unit::MOST_FRAME];
     let s = x.send(word, &mut frame);
     let mut e = d;
     let y = s.unit;
@@ -100,7 +101,7 @@ fn arrive(d: Desk, line: u32, u: u32, f: u32, out: &mut [u8]) -> Done
     let x = d.units[i];
     let slot = (f as usize) - 1;
     let store = d.store;
-    let from = 117 * slot;
+    let from = Unit::MOST_FRAME * slot;
     let to = from + d.lens[slot];
     let a = x.arrive(&store[from..to]);
     let mut e = d;
@@ -118,7 +119,7 @@ fn request(d: Desk, line: u32, u: u32, k: u32, out: &mut [u8]) -> Done
 {
     let i = (u as usize) - 1;
     let x = d.units[i];
-    let mut frame = [0u8; 117];
+    let mut frame = [0u8; Unit::MOST_FRAME];
     let h = x.request(number_of(k), &mut frame);
     Done {
         desk: d.keep(h.answer, &frame, h.len),
@@ -132,7 +133,7 @@ fn take(d: Desk, line: u32, u: u32, out: &mut [u8]) -> Done
 {
     let i = (u as usize) - 1;
     let x = d.units[i];
-    let mut word = [0u8; 48];
+    let mut word = [0u8; Unit::MOST_DATA];
     let t = x.take(&mut word);
     let mut e = d;
     let y = t.unit;

@@ -7,12 +7,12 @@ ghost use lib.ListN.{length};
 ghost use lib.Seq.{sets};
 ghost use Rattle.bench.specs.Desk.{startedUnit, startedDesk, keptIn};
 
-// Unit u is `units[u - 1]`, closed where u is more than n. Frame f stands in the store from 117 (f - 1) on.
+// Unit u is `units[u - 1]`, closed where u is more than n. Frame f stands in slot f - 1 of the store.
 pub struct Desk {
     pub n: u8,
-    pub units: [Unit; 3],
-    pub store: [u8; 7488],
-    pub lens: [usize; 64],
+    pub units: [Unit; Desk::UNITS],
+    pub store: [u8; Desk::FRAMES * Unit::MOST_FRAME],
+    pub lens: [usize; Desk::FRAMES],
     pub count: usize,
 }
 
@@ -32,18 +32,23 @@ fn opened_unit(me: u8, n: u8, w: u8) -> Unit
 }
 
 // Copies a frame, and what follows it, into its slot of the store.
-fn put_frame(store: &mut [u8; 7488], slot: usize, frame: &[u8])
+fn put_frame(store: &mut [u8; Desk::FRAMES * Unit::MOST_FRAME], slot: usize, frame: &[u8])
     requires { ⌜ (slot < 64) × (length (now frame) ≤ 117) ⌝ }
     ensures { λ r. ⌜ now (store .exit) ≡ sets (now (store .entry)) (117 * slot) (now (frame .entry)) ⌝ }
 {
     let mut i = 0;
     while i < frame.len() {
-        store[117 * slot + i] = frame[i];
+        store[Unit::MOST_FRAME * slot + i] = frame[i];
         i += 1;
     }
 }
 
 impl Desk {
+    // The most units on the bench, and the most frames: one for each later line.
+    pub const UNITS: usize = 3;
+
+    pub const FRAMES: usize = 64;
+
     // A group of n units with window w, and no frame yet.
     pub fn open(n: u8, w: u8) -> Self
         ensures { λ r. ⌜ r ≡ startedDesk n w ⌝ }
@@ -54,8 +59,8 @@ impl Desk {
         Self {
             n,
             units: [a, b, c],
-            store: [0u8; 7488],
-            lens: [0usize; 64],
+            store: [0u8; Self::FRAMES * Unit::MOST_FRAME],
+            lens: [0usize; Self::FRAMES],
             count: 0,
         }
     }

@@ -9,6 +9,9 @@ use reading::Bench;
 ghost use Rattle.bench.specs.Reading.{Ready};
 ghost use Rattle.bench.specs.Runs.{Turns};
 
+// How many bytes are read at once.
+const PART: usize = 64;
+
 // The bench after one part, and whether there may be more to print.
 struct Next {
     bench: Bench,
@@ -20,8 +23,8 @@ fn turn(b: Bench) -> Next
     requires { ⌜ Ready b ⌝ }
     ensures { λ r. ⌜ Turns b r ⌝ }
 {
-    let mut part = [0u8; 64];
-    let mut out = [0u8; 5376];
+    let mut part = [0u8; PART];
+    let mut out = [0u8; Bench::LONGEST * PART];
     let got = libc::read(STDIN_FILENO, &mut part);
     let n = io::count(got, &part);
     if n == 0 {
@@ -38,7 +41,7 @@ fn turn(b: Bench) -> Next
     let next = t.bench;
     Next {
         bench: next,
-        more: is_written && next.number < 66,
+        more: is_written && next.number < Bench::OVER,
     }
 }
 

@@ -13,7 +13,7 @@ ghost use Rattle.script.specs.Shown.{groupIn};
 ghost use Rattle.script.specs.Reader.{readLine, readPart};
 ghost use Rattle.bench.specs.Reading.{Ready, readerOf, beginsWith, lineSaid, partSaid, Tells, Starts, Reads, Ends};
 
-// `number` is that of the line to come: 1 the first, 2 to 65 the later ones, 66 where no line is read any more.
+// `number` is that of the line to come: 1 the first, then the later ones, and OVER where no line is read any more.
 pub struct Bench {
     pub line: Collector,
     pub desk: Desk,
@@ -36,7 +36,7 @@ fn begin(shown: Line, out: &mut [u8]) -> Told
             bench: Bench {
                 line: Collector::new(),
                 desk: Desk::open(0, 0),
-                number: 66,
+                number: Bench::OVER,
             },
             len: print::no_group_line(out),
         };
@@ -52,6 +52,12 @@ fn begin(shown: Line, out: &mut [u8]) -> Told
 }
 
 impl Bench {
+    // The most bytes that a line prints.
+    pub const LONGEST: usize = 84;
+
+    // The first line that is not read: the 65th later one.
+    pub const OVER: u32 = 66;
+
     pub fn new() -> Self
         ensures { λ r. ⌜ Starts r ⌝ }
     {
@@ -74,7 +80,7 @@ impl Bench {
             return begin(shown, out);
         }
         let d = self.desk;
-        if 65 < number {
+        if Self::OVER <= number {
             return Told {
                 bench: Bench {
                     line: Collector::new(),

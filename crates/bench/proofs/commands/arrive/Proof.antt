@@ -1,88 +1,66 @@
-use Rattle.bench.proofs.Shape.{shaped}
 -- `commands::arrive` meets its contract: the frame is the part of the store, and the unit that it arrives at is stored back.
+use Prim.Native.Nat.{_-_}
+use mathlib.Core.Path.{refl}
+use native.Mathlib.Omega.{arith}
+use borrow.Author.Needs.{needs}
+use Rattle.bench.proofs.Shape.{shaped}
 use Rattle.bench.proofs.ActLaws.{did-acts, arrived-did}
 use Rattle.bench.proofs.DeskLaws.{frame-slice}
 use Rattle.bench.proofs.PrintLaws.{answer-short}
-use lib.ListN.{length}
-use native.Mathlib.Omega.{arith}
-use mathlib.Core.Path.{_≡_, refl}
-use Prim.Native.Nat.{_-_}
-use borrow.Author.Needs.{needs}
 use Rattle.bench.proofs.commands.arrive.Statement.{statement}
 use Rattle.bench.proofs.commands.arrive.Tie as tie
-use Rattle.bench.proofs.commands.arrive.Reads as reads
-use Rattle.bench.proofs.commands.arrive.Lts as lts
-use Rattle.script.proofs.print.answer_line.Reads as answer-line-reads
-use Rattle.unit.proofs.Unit.arrive.Reads as arrive-reads
 
--- src/commands.rt:99:13
 sub-i : tie.Need-sub-i
 sub-i c = search needs
 
--- src/commands.rt:100:13
 mul-x : tie.Need-mul-x
 mul-x c = search needs
 
--- src/commands.rt:100:13
 element-copy-out-x : tie.Need-element-copy-out-x
 element-copy-out-x c = search needs
 
--- src/commands.rt:101:16
 sub-slot : tie.Need-sub-slot
 sub-slot c = search needs
 
--- src/commands.rt:103:16
 mul-from : tie.Need-mul-from
 mul-from c = search needs
 
--- src/commands.rt:104:21
 mul-to : tie.Need-mul-to
 mul-to c = search needs
 
--- src/commands.rt:104:21
 element-copy-out-to : tie.Need-element-copy-out-to
 element-copy-out-to c = search needs
 
--- src/commands.rt:104:14
 add-to : tie.Need-add-to
 add-to c = let start = c .before .before .before .before in omega (arith, start .pre .0 .unit .fits .lengths (start .args .f - 1) (omega arith))
 
--- src/commands.rt:105:22
 sub-arrive : tie.Need-sub-arrive
 sub-arrive c = search needs
 
--- src/commands.rt:105:22
 part-arrive-start : tie.Need-part-arrive-start
 part-arrive-start c = search needs
 
--- src/commands.rt:105:22
 part-arrive-end : tie.Need-part-arrive-end
 part-arrive-end c =
     let start = c .before .before .before .before .before in
     let long = shaped (start .args .t1) _ (start .good .0 .1 .1) .store in
     omega (arith, long, start .pre .0 .unit .fits .lengths (start .args .f - 1) (omega arith))
 
--- src/commands.rt:105:9
 arrive-requires : tie.Need-arrive-requires
 arrive-requires c κs = search needs
 
--- src/commands.rt:108:5
 mul-y : tie.Need-mul-y
 mul-y c = search needs
 
--- src/commands.rt:108:5
 element-set-from-y : tie.Need-element-set-from-y
 element-set-from-y c = search needs
 
--- src/commands.rt:111:14
 answer-line-requires : tie.Need-answer-line-requires
 answer-line-requires c κs = search needs
 
--- src/commands.rt:95:1
 same-length : tie.Need-same-length
 same-length c = search needs
 
--- src/commands.rt:95:1
 returns : tie.Need-returns
 returns c =
     let start = c .before .before .before .before .before .before .before .before .before .before .before .before in

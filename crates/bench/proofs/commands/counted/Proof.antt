@@ -2,18 +2,13 @@
 use native.Mathlib.Omega.{arith}
 use borrow.Author.Tests.{le-leb}
 use Rattle.rules.specs.Maps.{between}
-use borrow.Author.Needs.{needs}
 use Rattle.bench.proofs.commands.counted.Statement.{statement}
 use Rattle.bench.proofs.commands.counted.Tie as tie
-use Rattle.bench.proofs.commands.counted.Reads as reads
-use Rattle.bench.proofs.commands.counted.Lts as lts
 
--- src/commands.rt:25:9
 returns : tie.Need-returns
 unfolding between
 returns c = rw (c .if1 .taken)
 
--- src/commands.rt:21:1
 returns-2 : tie.Need-returns-2
 unfolding between
 returns-2 c = rw (le-leb 1 (c .before .args .x) (omega (arith, c .if1 .left)))

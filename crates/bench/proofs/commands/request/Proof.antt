@@ -1,58 +1,41 @@
 -- `commands::request` meets its contract: the frame that was written is the next one.
+use borrow.Author.Needs.{needs}
 use Rattle.bench.proofs.ActLaws.{did-acts, asked-did}
 use Rattle.bench.proofs.PrintLaws.{answer-short}
 use Rattle.bench.proofs.Shape.{shaped}
-use borrow.Author.Needs.{needs}
 use Rattle.bench.proofs.commands.request.Statement.{statement}
 use Rattle.bench.proofs.commands.request.Tie as tie
-use Rattle.bench.proofs.commands.request.Reads as reads
-use Rattle.bench.proofs.commands.request.Lts as lts
-use Rattle.bench.proofs.commands.number_of.Reads as number-of-reads
-use Rattle.bench.proofs.desk.Desk.keep.Reads as keep-reads
-use Rattle.script.proofs.print.answer_line.Reads as answer-line-reads
-use Rattle.unit.proofs.Unit.request.Reads as request-reads
 
--- src/commands.rt:119:13
 sub-i : tie.Need-sub-i
 sub-i c = search needs
 
--- src/commands.rt:120:13
 mul-x : tie.Need-mul-x
 mul-x c = search needs
 
--- src/commands.rt:120:13
 element-copy-out-x : tie.Need-element-copy-out-x
 element-copy-out-x c = search needs
 
--- src/commands.rt:122:23
 number-of-requires : tie.Need-number-of-requires
 number-of-requires c κs = search needs
 
--- src/commands.rt:122:37
 slice-aggregate-request : tie.Need-slice-aggregate-request
 slice-aggregate-request c = search needs
 
--- src/commands.rt:122:9
 request-requires : tie.Need-request-requires
 request-requires c κs = search needs
 
--- src/commands.rt:124:32
 slice-aggregate-keep : tie.Need-slice-aggregate-keep
 slice-aggregate-keep c = search needs
 
--- src/commands.rt:124:15
 keep-requires : tie.Need-keep-requires
 keep-requires c κs = search needs
 
--- src/commands.rt:125:14
 answer-line-requires : tie.Need-answer-line-requires
 answer-line-requires c κs = search needs
 
--- src/commands.rt:115:1
 same-length : tie.Need-same-length
 same-length c = search needs
 
--- src/commands.rt:115:1
 returns : tie.Need-returns
 returns c =
     let start = c .before .before .before .before .before .before .before .before .before .before .before .before in

@@ -1,61 +1,44 @@
 -- `commands::send` meets its contract: the unit is stored back, and the frame that was written is the next one.
+use borrow.Author.Needs.{needs}
 use Rattle.bench.proofs.ActLaws.{did-acts, sent-did}
 use Rattle.bench.proofs.PrintLaws.{answer-short}
 use Rattle.bench.proofs.Shape.{shaped}
-use borrow.Author.Needs.{needs}
 use Rattle.bench.proofs.commands.send.Statement.{statement}
 use Rattle.bench.proofs.commands.send.Tie as tie
-use Rattle.bench.proofs.commands.send.Reads as reads
-use Rattle.bench.proofs.commands.send.Lts as lts
-use Rattle.bench.proofs.desk.Desk.keep.Reads as keep-reads
-use Rattle.script.proofs.print.answer_line.Reads as answer-line-reads
-use Rattle.unit.proofs.Unit.send.Reads as send-reads
 
--- src/commands.rt:82:13
 sub-i : tie.Need-sub-i
 sub-i c = search needs
 
--- src/commands.rt:83:13
 mul-x : tie.Need-mul-x
 mul-x c = search needs
 
--- src/commands.rt:83:13
 element-copy-out-x : tie.Need-element-copy-out-x
 element-copy-out-x c = search needs
 
--- src/commands.rt:85:26
 slice-aggregate-send : tie.Need-slice-aggregate-send
 slice-aggregate-send c = search needs
 
--- src/commands.rt:85:9
 send-requires : tie.Need-send-requires
 send-requires c κs = search needs
 
--- src/commands.rt:88:5
 mul-y : tie.Need-mul-y
 mul-y c = search needs
 
--- src/commands.rt:88:5
 element-set-from-y : tie.Need-element-set-from-y
 element-set-from-y c = search needs
 
--- src/commands.rt:90:32
 slice-aggregate-keep : tie.Need-slice-aggregate-keep
 slice-aggregate-keep c = search needs
 
--- src/commands.rt:90:15
 keep-requires : tie.Need-keep-requires
 keep-requires c κs = search needs
 
--- src/commands.rt:91:14
 answer-line-requires : tie.Need-answer-line-requires
 answer-line-requires c κs = search needs
 
--- src/commands.rt:78:1
 same-length : tie.Need-same-length
 same-length c = search needs
 
--- src/commands.rt:78:1
 returns : tie.Need-returns
 returns c =
     let start = c .before .before .before .before .before .before .before .before .before .before .before .before .before in

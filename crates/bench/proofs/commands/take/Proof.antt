@@ -1,64 +1,48 @@
-use Rattle.bench.proofs.Shape.{shaped}
-use Rattle.script.specs.Desk.{lent}
-use Prim.Native.Nat.{_≤_}
-use Rattle.bench.proofs.LengthLaws.{taken-len}
-use lib.Seq.{length-take-le}
 -- `commands::take` meets its contract: a refusal prints its answer, a message its sender, number and word.
+use Prim.Native.Nat.{_≤_}
+use mathlib.Core.Path.{refl, sym}
+use native.Mathlib.Omega.{arith}
+use lib.Seq.{length-take-le}
+use borrow.Author.Needs.{needs}
+use Rattle.script.specs.Desk.{lent}
+use Rattle.bench.proofs.Shape.{shaped}
+use Rattle.bench.proofs.LengthLaws.{taken-len}
 use Rattle.bench.proofs.ActLaws.{did-acts, refused-did, took-did}
 use Rattle.bench.proofs.PrintLaws.{answer-short, taken-short}
-use lib.ListN.{length}
-use native.Mathlib.Omega.{arith}
-use mathlib.Core.Path.{_≡_, refl, sym}
-use borrow.Author.Needs.{needs}
 use Rattle.bench.proofs.commands.take.Statement.{statement}
 use Rattle.bench.proofs.commands.take.Tie as tie
-use Rattle.bench.proofs.commands.take.Reads as reads
-use Rattle.bench.proofs.commands.take.Lts as lts
-use Rattle.script.proofs.print.answer_line.Reads as answer-line-reads
-use Rattle.script.proofs.print.taken_line.Reads as taken-line-reads
-use Rattle.unit.proofs.Unit.take.Reads as take-reads
 
 -- the word fits
 word-short : (c : tie.After-take) → c .take .result .len ≤ 48
 word-short c = rw (c .take .ensures .exact) (taken-len _ (lent 48))
 
--- src/commands.rt:133:13
 sub-i : tie.Need-sub-i
 sub-i c = search needs
 
--- src/commands.rt:134:13
 mul-x : tie.Need-mul-x
 mul-x c = search needs
 
--- src/commands.rt:134:13
 element-copy-out-x : tie.Need-element-copy-out-x
 element-copy-out-x c = search needs
 
--- src/commands.rt:136:20
 slice-aggregate-take : tie.Need-slice-aggregate-take
 slice-aggregate-take c = search needs
 
--- src/commands.rt:136:9
 take-requires : tie.Need-take-requires
 take-requires c κs = search needs
 
--- src/commands.rt:139:5
 mul-y : tie.Need-mul-y
 mul-y c = search needs
 
--- src/commands.rt:139:5
 element-set-from-y : tie.Need-element-set-from-y
 element-set-from-y c = search needs
 
--- src/commands.rt:143:18
 answer-line-requires : tie.Need-answer-line-requires
 answer-line-requires c κs = search needs
 
--- src/commands.rt:141:9
 same-length : tie.Need-same-length
 same-length c = search needs
 
--- src/commands.rt:141:9
 returns : tie.Need-returns
 returns c =
     let start = c .before .before .before .before .before .before .before .before .before .before .before .before in
@@ -68,27 +52,21 @@ returns c =
     (refused-did d (start .args .u) (start .pre .0) (shaped d _ (start .good .0 .1 .1) .units) (t .result) _ (t .ensures) (c .before .before .before .before .if1 .taken)) refl
     (answer-short (start .args .line) (t .result .answer) (search needs) (search needs)) (start .pre .1) (c .before .before .answer-line .ensures)
 
--- src/commands.rt:149:43
 cast-taken-line : tie.Need-cast-taken-line
 cast-taken-line c = search needs
 
--- src/commands.rt:149:64
 array-share-prefix-word : tie.Need-array-share-prefix-word
 array-share-prefix-word c = omega (arith, word-short (c .before .before .before .before .before .before), c .before .before .before .before .before .word2 .given)
 
--- src/commands.rt:149:64
 slice-aggregate-taken-line : tie.Need-slice-aggregate-taken-line
 slice-aggregate-taken-line c = sym (length-take-le _ _ (array-share-prefix-word (c .before)))
 
--- src/commands.rt:149:14
 taken-line-requires : tie.Need-taken-line-requires
 taken-line-requires c κs = search needs
 
--- src/commands.rt:129:1
 same-length-2 : tie.Need-same-length-2
 same-length-2 c = search needs
 
--- src/commands.rt:129:1
 returns-2 : tie.Need-returns-2
 returns-2 c =
     let start = c .before .before .before .before .before .before .before .before .before .before .before .before .before .before in

@@ -1,35 +1,26 @@
 -- `Desk::keep` meets its contract: a refusal keeps nothing, and a frame goes into the next slot.
-use Rattle.bench.specs.Desk.{keptIn}
 use borrow.Author.Tests.{eq-eqb, ne-eqb}
 use borrow.Author.Needs.{needs}
+use Rattle.bench.specs.Desk.{keptIn}
 use Rattle.bench.proofs.desk.Desk.keep.Statement.{statement}
 use Rattle.bench.proofs.desk.Desk.keep.Tie as tie
-use Rattle.bench.proofs.desk.Desk.keep.Reads as reads
-use Rattle.bench.proofs.desk.Desk.keep.Lts as lts
-use Rattle.bench.proofs.desk.put_frame.Reads as put-frame-reads
 
--- src/desk.rt:69:13
 returns : tie.Need-returns
 unfolding keptIn
 returns c = rw (ne-eqb (c .before .before .args .answer) 0 (c .if1 .taken))
 
--- src/desk.rt:72:9
 put-frame-requires : tie.Need-put-frame-requires
 put-frame-requires c κs = search needs
 
--- src/desk.rt:73:9
 mul-self : tie.Need-mul-self
 mul-self c = search needs
 
--- src/desk.rt:73:9
 element-write-self : tie.Need-element-write-self
 element-write-self c = search needs
 
--- src/desk.rt:74:22
 add-self : tie.Need-add-self
 add-self c = search needs
 
--- src/desk.rt:64:5
 returns-2 : tie.Need-returns-2
 unfolding keptIn
 returns-2 c = rw (eq-eqb (c .before .before .before .before .args .answer) 0 (c .before .before .if1 .left), c .put-frame .ensures)

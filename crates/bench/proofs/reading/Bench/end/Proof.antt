@@ -1,43 +1,30 @@
 -- `Bench::end` meets its contract: a line that is begun ends, an empty input names no group, and else nothing is printed.
-use Rattle.bench.proofs.LineLaws.{line-ends, first-ends, none-ends}
 use borrow.Author.Needs.{needs}
+use Rattle.bench.proofs.LineLaws.{line-ends, first-ends, none-ends}
 use Rattle.bench.proofs.reading.Bench.end.Statement.{statement}
 use Rattle.bench.proofs.reading.Bench.end.Tie as tie
-use Rattle.bench.proofs.reading.Bench.end.Reads as reads
-use Rattle.bench.proofs.reading.Bench.end.Lts as lts
-use Rattle.bench.proofs.reading.Bench.end_line.Reads as end-line-reads
-use Rattle.script.proofs.collector.Collector.size.Reads as size-reads
-use Rattle.script.proofs.print.no_group_line.Reads as no-group-line-reads
 
--- src/reading.rt:132:16
 size-requires : tie.Need-size-requires
 size-requires c κs = search needs
 
--- src/reading.rt:133:17
 end-line-requires : tie.Need-end-line-requires
 end-line-requires c κs = search needs
 
--- src/reading.rt:134:13
 same-length : tie.Need-same-length
 same-length c = search needs
 
--- src/reading.rt:134:13
 returns : tie.Need-returns
 returns c = line-ends _ (rw (c .before .before .before .before .before .size .ensures .0) at (c .before .before .before .before .if1 .taken)) (c .before .before .end-line .ensures)
 
--- src/reading.rt:137:13
 no-group-line-requires : tie.Need-no-group-line-requires
 no-group-line-requires c κs = search needs
 
--- src/reading.rt:137:13
 same-length-2 : tie.Need-same-length-2
 same-length-2 c = search needs
 
--- src/reading.rt:137:13
 returns-2 : tie.Need-returns-2
 returns-2 c = first-ends _ (rw (c .before .before .before .before .before .before .before .size .ensures .0) at (c .before .before .before .before .before .before .if1 .left)) (c .before .before .before .before .if2 .taken) (c .before .before .before .before .before .before .before .before .before .before .pre .1) (c .before .before .no-group-line .ensures)
 
--- src/reading.rt:127:5
 returns-3 : tie.Need-returns-3
 returns-3 c = none-ends _ (rw (c .before .before .before .size .ensures .0) at (c .before .before .if1 .left)) (c .if2 .left)
 

@@ -1,80 +1,59 @@
 -- `Bench::end_line` meets its contract: the first line, a later one, and one that is not read any more.
-use Rattle.bench.proofs.LineLaws.{first-reads, over-reads, later-reads}
-use Rattle.script.proofs.GatheredLaws.{take-length-take}
+use Prim.Native.Nat.{ℕ}
+use mathlib.Core.Path.{_≡_, sym, ap, _∙_}
+use native.Mathlib.Omega.{arith}
 use lib.Seq.{length-take-le}
 use lib.ListN.{length, take}
-use native.Mathlib.Omega.{arith}
-use mathlib.Core.Path.{_≡_, sym, ap, _∙_}
-use Prim.Native.Nat.{ℕ}
 use borrow.Author.Needs.{needs}
+use Rattle.script.proofs.GatheredLaws.{take-length-take}
+use Rattle.bench.proofs.LineLaws.{first-reads, over-reads, later-reads}
 use Rattle.bench.proofs.reading.Bench.end_line.Statement.{statement}
 use Rattle.bench.proofs.reading.Bench.end_line.Tie as tie
-use Rattle.bench.proofs.reading.Bench.end_line.Reads as reads
-use Rattle.bench.proofs.reading.Bench.end_line.Lts as lts
-use Rattle.bench.proofs.commands.act.Reads as act-reads
-use Rattle.bench.proofs.reading.begin.Reads as begin-reads
-use Rattle.script.proofs.collector.Collector.new.Reads as new-reads
-use Rattle.script.proofs.collector.Collector.read.Reads as read-reads
-use Rattle.script.proofs.collector.Collector.size.Reads as size-reads
 
--- src/reading.rt:71:13
 read-requires : tie.Need-read-requires
 read-requires c κs = search needs
 
--- src/reading.rt:74:13
 begin-requires : tie.Need-begin-requires
 begin-requires c κs = search needs
 
--- src/reading.rt:74:13
 same-length : tie.Need-same-length
 same-length c = search needs
 
--- src/reading.rt:74:13
 returns : tie.Need-returns
 returns c = first-reads _ (c .before .before .before .before .if1 .taken) (rw (c .before .before .before .before .before .read .ensures) at (c .before .before .begin .ensures))
 
--- src/reading.rt:80:27
 new-requires : tie.Need-new-requires
 new-requires c κs = search needs
 
--- src/reading.rt:78:13
 returns-2 : tie.Need-returns-2
 returns-2 c = over-reads _ (c .new .ensures) (c .before .before .before .before .before .before .before .pre .0) (c .before .if2 .taken)
 
--- src/reading.rt:88:13
 size-requires : tie.Need-size-requires
 size-requires c κs = search needs
 
--- src/reading.rt:89:52
 array-share-prefix-bytes : tie.Need-array-share-prefix-bytes
 array-share-prefix-bytes c =
     let g = c .before .before .before .before .before .before .before .before .good in
     let long : length (c .before .before .before .before .before .before .before .before .args .self .line .bytes) ≡ 80 = search needs in
     omega (arith, long, c .size .ensures .1)
 
--- src/reading.rt:89:52
 slice-aggregate-act : tie.Need-slice-aggregate-act
 slice-aggregate-act c = sym (length-take-le _ _ (array-share-prefix-bytes (c .before)))
 
--- src/reading.rt:89:13
 act-requires : tie.Need-act-requires
 act-requires c κs =
     let R = c .before .before .before .before .before .before .before .before .before .before .pre .0 in
     (record { fits = R .desk; room = omega (arith, R .frames, c .before .before .before .before .if2 .left) }, c .before .before .before .before .before .before .before .before .before .before .pre .1)
 
--- src/reading.rt:93:23
 new-requires-2 : tie.Need-new-requires-2
 new-requires-2 c κs = search needs
 
--- src/reading.rt:95:25
 add-t21 : tie.Need-add-t21
 add-t21 c = search needs
 
--- src/reading.rt:66:5
 same-length-2 : tie.Need-same-length-2
 same-length-2 c = search needs
 
--- src/reading.rt:66:5
 returns-3 : tie.Need-returns-3
 returns-3 c =
     let start = c .before .before .before .before .before .before .before .before .before .before .before .before .before .before .before in

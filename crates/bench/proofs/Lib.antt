@@ -10,3 +10,4 @@ pub mod ReadLaws
 pub mod FeedLaws
 pub mod LineLaws
 pub mod RunLaws
+pub mod Determined

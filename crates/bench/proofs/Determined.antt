@@ -1,6 +1,6 @@
 -- Any two results that a contract of the bench allows are equal, and so is every byte of the output.
 use mathlib.Core.List.{List}
-use mathlib.Core.Path.{_≡_, sym, cong, _∙_}
+use mathlib.Core.Path.{_≡_, sym, _∙_, ap₂}
 use Prim.Native.Nat.{ℕ}
 use Rattle.script.specs.Items.{Command}
 use Rattle.script.specs.Reader.{Read}
@@ -16,22 +16,22 @@ prints-determined : {text out after other : List ℕ} {m k : ℕ} → Prints tex
 prints-determined a b = (a .count ∙ sym (b .count), a .bytes ∙ sym (b .bytes))
 
 done-is : {r q : Done} → r .desk ≡ q .desk → r .len ≡ q .len → r ≡ q
-done-is {r} {q} d l = cong (λ x. record { desk = x; len = r .len }) d ∙ cong (λ x. record { desk = q .desk; len = x }) l
+done-is d l = ap₂ (λ (d : Desk) (n : ℕ). record { desk = d; len = n }) d l
 
 told-is : {r q : Told} → r .bench ≡ q .bench → r .len ≡ q .len → r ≡ q
-told-is {r} {q} b l = cong (λ x. record { bench = x; len = r .len }) b ∙ cong (λ x. record { bench = q .bench; len = x }) l
+told-is b l = ap₂ (λ (b : Bench) (n : ℕ). record { bench = b; len = n }) b l
 
 pub act-determined : {d : Desk} {c : Command} {line : ℕ} {out after other : List ℕ} {r q : Done}
     → Acts d c line out r after → Acts d c line out q other → (r ≡ q) × (after ≡ other)
 act-determined a b =
     let printed = prints-determined (a .text) (b .text) in
-    (done-is (a .next ∙ sym (b .next)) (printed .left), printed .right)
+    (done-is (a .next ∙ sym (b .next)) (printed .0), printed .1)
 
 tells-determined : {s : Said} {most : ℕ} {out after other : List ℕ} {r q : Told}
     → Tells s most out r after → Tells s most out q other → (r ≡ q) × (after ≡ other)
 tells-determined a b =
     let printed = prints-determined (a .text) (b .text) in
-    (told-is (a .next ∙ sym (b .next)) (printed .left), printed .right)
+    (told-is (a .next ∙ sym (b .next)) (printed .0), printed .1)
 
 pub feed-determined : {s : Said} {meant : Read} {most : ℕ} {out after other : List ℕ} {r q : Told}
     → Reads s meant most out r after → Reads s meant most out q other → (r ≡ q) × (after ≡ other)

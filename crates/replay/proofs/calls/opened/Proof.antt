@@ -1,67 +1,51 @@
+-- `calls::opened` meets its contract: each number stands at its place.
 use borrow.Author.Needs.{needs}
+use Rattle.replay.specs.Calls.{openMade}
 use Rattle.replay.proofs.calls.opened.Statement.{statement}
 use Rattle.replay.proofs.calls.opened.Tie as tie
-use Rattle.replay.proofs.calls.opened.Reads as reads
-use Rattle.replay.proofs.calls.opened.Lts as lts
-use Rattle.replay.proofs.record.number_at.Reads as number-at-reads
-use Rattle.tables.proofs.byte.Reads as byte-reads
-use Rattle.unit.proofs.Unit.open.Reads as open-reads
 
--- src/calls.rt:28:9
 number-at-requires : tie.Need-number-at-requires
 number-at-requires c κs = search needs
 
--- src/calls.rt:29:9
 number-at-requires-2 : tie.Need-number-at-requires-2
 number-at-requires-2 c κs = search needs
 
--- src/calls.rt:30:9
 number-at-requires-3 : tie.Need-number-at-requires-3
 number-at-requires-3 c κs = search needs
 
--- src/calls.rt:31:9
 number-at-requires-4 : tie.Need-number-at-requires-4
 number-at-requires-4 c κs = search needs
 
--- src/calls.rt:32:9
 number-at-requires-5 : tie.Need-number-at-requires-5
 number-at-requires-5 c κs = search needs
 
--- src/calls.rt:33:9
 number-at-requires-6 : tie.Need-number-at-requires-6
 number-at-requires-6 c κs = search needs
 
--- src/calls.rt:34:9
 number-at-requires-7 : tie.Need-number-at-requires-7
 number-at-requires-7 c κs = search needs
 
--- src/calls.rt:35:9
 number-at-requires-8 : tie.Need-number-at-requires-8
 number-at-requires-8 c κs = search needs
 
--- src/calls.rt:38:13
 byte-requires : tie.Need-byte-requires
 byte-requires c κs = search needs
 
--- src/calls.rt:39:12
 byte-requires-2 : tie.Need-byte-requires-2
 byte-requires-2 c κs = search needs
 
--- src/calls.rt:40:12
 byte-requires-3 : tie.Need-byte-requires-3
 byte-requires-3 c κs = search needs
 
--- src/calls.rt:41:14
 number-at-requires-9 : tie.Need-number-at-requires-9
 number-at-requires-9 c κs = search needs
 
--- src/calls.rt:37:9
 open-requires : tie.Need-open-requires
 open-requires c κs = search needs
 
--- src/calls.rt:24:1
 returns : tie.Need-returns
-returns c = search needs
+unfolding openMade
+returns c = rw (c .before .«open» .ensures .exact, c .before .before .before .before .before .before .before .before .before .before .before .before .before .number-at .ensures, c .before .before .before .before .before .before .before .before .before .before .before .before .number-at2 .ensures, c .before .before .before .before .before .before .before .before .before .before .before .number-at3 .ensures, c .before .before .before .before .before .before .before .before .before .before .number-at4 .ensures, c .before .before .before .before .before .before .before .before .before .number-at5 .ensures, c .before .before .before .before .before .before .before .before .number-at6 .ensures, c .before .before .before .before .before .before .before .number-at7 .ensures, c .before .before .before .before .before .before .number-at8 .ensures, c .before .before .before .before .before .byte .ensures, c .before .before .before .before .byte2 .ensures, c .before .before .before .byte3 .ensures, c .before .before .number-at9 .ensures)
 
 pub opened-spec : {M : Type 1} → statement M
 opened-spec =

@@ -1,55 +1,44 @@
+-- `changes::with_ack` meets its contract: ACK of the place that stands at the position.
 use borrow.Author.Needs.{needs}
+use borrow.Author.Tests.{eq-eqb, ne-eqb}
+use Rattle.replay.specs.Changes.{withAck}
 use Rattle.replay.proofs.changes.with_ack.Statement.{statement}
 use Rattle.replay.proofs.changes.with_ack.Tie as tie
-use Rattle.replay.proofs.changes.with_ack.Reads as reads
-use Rattle.replay.proofs.changes.with_ack.Lts as lts
-use Rattle.replay.proofs.changes.put.Reads as put-reads
-use Rattle.tables.proofs.before.Reads as before-reads
-use Rattle.tables.proofs.byte.Reads as byte-reads
 
--- src/changes.rt:139:9
 returns : tie.Need-returns
-returns c = search needs
+unfolding withAck
+returns c = rw (ne-eqb _ _ (c .if1 .taken))
 
--- src/changes.rt:141:30
 slice-aggregate-byte : tie.Need-slice-aggregate-byte
 slice-aggregate-byte c = search needs
 
--- src/changes.rt:141:17
 byte-requires : tie.Need-byte-requires
 byte-requires c κs = search needs
 
--- src/changes.rt:141:17
 cast-place : tie.Need-cast-place
 cast-place c = search needs
 
--- src/changes.rt:142:9
 slice-aggregate-put : tie.Need-slice-aggregate-put
 slice-aggregate-put c = search needs
 
--- src/changes.rt:142:20
 mul-put : tie.Need-mul-put
 mul-put c = search needs
 
--- src/changes.rt:142:33
 before-requires : tie.Need-before-requires
 before-requires c κs = search needs
 
--- src/changes.rt:142:33
 cast-put : tie.Need-cast-put
 cast-put c = search needs
 
--- src/changes.rt:142:20
 add-put : tie.Need-add-put
 add-put c = search needs
 
--- src/changes.rt:142:5
 put-requires : tie.Need-put-requires
 put-requires c κs = search needs
 
--- src/changes.rt:131:1
 returns-2 : tie.Need-returns-2
-returns-2 c = search needs
+unfolding withAck
+returns-2 c = rw (eq-eqb _ _ (c .before .before .before .before .before .before .if1 .left), c .before .put .ensures, c .before .before .before2 .ensures, c .before .before .before .before .byte .ensures)
 
 pub with-ack-spec : {M : Type 1} → statement M
 with-ack-spec =

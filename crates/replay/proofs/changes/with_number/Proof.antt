@@ -1,36 +1,35 @@
+-- `changes::with_number` meets its contract: each number by its own arm.
 use borrow.Author.Needs.{needs}
+use Rattle.replay.specs.Changes.{withNumber}
+use Rattle.replay.proofs.ChangeLaws.{number-rest}
 use Rattle.replay.proofs.changes.with_number.Statement.{statement}
 use Rattle.replay.proofs.changes.with_number.Tie as tie
-use Rattle.replay.proofs.changes.with_number.Reads as reads
-use Rattle.replay.proofs.changes.with_number.Lts as lts
 
--- src/changes.rt:30:15
 cast-low : tie.Need-cast-low
 cast-low c = search needs
 
--- src/changes.rt:27:1
 returns : tie.Need-returns
-returns c = search needs
+unfolding withNumber
+returns c = rw (c .match .keys1)
 
--- src/changes.rt:27:1
 returns-2 : tie.Need-returns-2
-returns-2 c = search needs
+unfolding withNumber
+returns-2 c = rw (c .match .keys2)
 
--- src/changes.rt:27:1
 returns-3 : tie.Need-returns-3
-returns-3 c = search needs
+unfolding withNumber
+returns-3 c = rw (c .match .keys3)
 
--- src/changes.rt:27:1
 returns-4 : tie.Need-returns-4
-returns-4 c = search needs
+unfolding withNumber
+returns-4 c = rw (c .match .keys4)
 
--- src/changes.rt:27:1
 returns-5 : tie.Need-returns-5
-returns-5 c = search needs
+unfolding withNumber
+returns-5 c = rw (c .match .keys5)
 
--- src/changes.rt:27:1
 returns-6 : tie.Need-returns-6
-returns-6 c = search needs
+returns-6 c = let r = c .match .rest in number-rest _ _ _ (r .0 .0 .0 .0 .1) (r .0 .0 .0 .1) (r .0 .0 .1) (r .0 .1) (r .1)
 
 pub with-number-spec : {M : Type 1} → statement M
 with-number-spec =

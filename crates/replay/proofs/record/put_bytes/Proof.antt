@@ -1,50 +1,43 @@
+-- `record::put_bytes` meets its contract. The invariant: storing what is left gives the whole.
 use borrow.Author.Needs.{needs}
+use Prim.Native.Nat.{_-_}
+use lib.ListN.{length}
+use Rattle.frame.proofs.Stores.{Stored, none-stored, one-stored, all-stored}
 use Rattle.replay.proofs.record.put_bytes.Statement.{statement}
 use Rattle.replay.proofs.record.put_bytes.Tie as tie
-use Rattle.replay.proofs.record.put_bytes.Reads as reads
-use Rattle.replay.proofs.record.put_bytes.Lts as lts
 
 abbrev Inv-loop : tie.InvT-loop
-Inv-loop d₀ at b i₀ d i = ?
+Inv-loop d₀ at b i₀ d i = Stored d₀ at b d i
 
 abbrev μ-loop : tie.MeasureT-loop
-μ-loop d₀ at b i₀ d i = ?
+μ-loop d₀ at b i₀ d i = length b - i
 
--- src/record.rt:67:5
 loop-holds : tie.Need-loop-holds Inv-loop μ-loop
-loop-holds c = search needs
+loop-holds c = none-stored _ _ _
 
--- src/record.rt:68:21
 shared-slice-read-d : tie.Need-shared-slice-read-d Inv-loop μ-loop
 shared-slice-read-d c = search needs
 
--- src/record.rt:68:11
 add-d : tie.Need-add-d Inv-loop μ-loop
 add-d c = search needs
 
--- src/record.rt:68:9
 slice-write-d : tie.Need-slice-write-d Inv-loop μ-loop
 slice-write-d c = search needs
 
--- src/record.rt:69:9
 add-i : tie.Need-add-i Inv-loop μ-loop
 add-i c = search needs
 
--- src/record.rt:67:5
 loop-less : tie.Need-loop-less Inv-loop μ-loop
 loop-less c = search needs
 
--- src/record.rt:67:5
 loop-again : tie.Need-loop-again Inv-loop μ-loop
-loop-again c = search needs
+loop-again c = one-stored _ _ _ _ _ (c .before .before .loop .inv) (c .before .loop-test .taken)
 
--- src/record.rt:62:1
 same-length : tie.Need-same-length Inv-loop μ-loop
-same-length c = search needs
+same-length c = c .before .loop .inv .long
 
--- src/record.rt:62:1
 returns : tie.Need-returns Inv-loop μ-loop
-returns c = search needs
+returns c = all-stored _ _ _ _ _ (c .before .loop .inv) (c .loop-test .left)
 
 pub put-bytes-spec : {M : Type 1} → statement M
 put-bytes-spec =

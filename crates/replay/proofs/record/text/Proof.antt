@@ -1,42 +1,37 @@
+-- `record::text` meets its contract: the part is as long as the smaller of the two numbers.
 use borrow.Author.Needs.{needs}
+use native.Mathlib.Omega.{arith}
+use mathlib.Core.Path.{_≡_}
+use Prim.Native.Nat.{_+_, _-_}
 use Rattle.replay.proofs.record.text.Statement.{statement}
 use Rattle.replay.proofs.record.text.Tie as tie
-use Rattle.replay.proofs.record.text.Reads as reads
-use Rattle.replay.proofs.record.text.Lts as lts
-use Rattle.replay.proofs.record.least.Reads as least-reads
-use Rattle.tables.proofs.byte.Reads as byte-reads
 
--- src/record.rt:33:25
 byte-requires : tie.Need-byte-requires
 byte-requires c κs = search needs
 
--- src/record.rt:33:25
 cast-least : tie.Need-cast-least
 cast-least c = search needs
 
--- src/record.rt:33:19
 least-requires : tie.Need-least-requires
 least-requires c κs = search needs
 
--- src/record.rt:33:15
 add-end : tie.Need-add-end
 add-end c = search needs
 
--- src/record.rt:34:5
 sub-result : tie.Need-sub-result
 sub-result c = search needs
 
--- src/record.rt:34:5
 part-result-start : tie.Need-part-result-start
 part-result-start c = search needs
 
--- src/record.rt:34:5
 part-result-end : tie.Need-part-result-end
 part-result-end c = search needs
 
--- src/record.rt:29:1
 returns : tie.Need-returns
-returns c = search needs
+returns c =
+    let n = c .before .least .result in
+    let long : 8 + n - 8 ≡ n = omega arith in
+    rw (long, c .before .least .ensures, c .before .before .byte .ensures)
 
 pub text-spec : {M : Type 1} → statement M
 text-spec =

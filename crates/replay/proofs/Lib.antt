@@ -1,0 +1,3 @@
+-- What the proofs of a replay share.
+pub mod ChangeLaws
+pub mod CallLaws

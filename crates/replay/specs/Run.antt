@@ -15,7 +15,7 @@ abbrev pub closedUnit : Unit
 closedUnit = emptyWith closedCore
 
 -- the output before each call
-abbrev pub blank : List ℕ
+unfoldable pub blank : List ℕ
 blank = replicate 256 165
 
 abbrev pub replyOf : Made → List ℕ → List ℕ

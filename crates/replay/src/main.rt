@@ -15,7 +15,7 @@ ghost use mathlib.Core.Path.{_≡_};
 ghost use Prim.Native.Nat.{_+_, _*_, _≤_};
 ghost use lib.ListN.{length, replicate};
 ghost use Rattle.handing.specs.Handing.{Gives};
-ghost use Rattle.replay.specs.Run.{closedUnit, answeredOf, runOf};
+ghost use Rattle.replay.specs.Run.{closedUnit, blank, answeredOf, runOf};
 
 const CALL: usize = 208;
 
@@ -39,12 +39,19 @@ fn closed() -> [Unit; Unit::MOST_UNITS]
     [unit; Unit::MOST_UNITS]
 }
 
+// The output before a call.
+fn blank() -> [u8; 256]
+    ensures { λ r. ⌜ r ≡ blank ⌝ }
+{
+    [165u8; 256]
+}
+
 // The call of a record on a unit: its reply goes to the output from a place on.
 fn answered(u: Unit, s: &[u8], out: &mut [u8], at: usize) -> Unit
     requires { ⌜ (208 ≤ length (now s)) × (at + 272 ≤ length (now out)) ⌝ }
     ensures { λ r. ⌜ Gives (answeredOf u (now (s .entry)) (now (out .entry)) at) r (now (out .exit)) ⌝ }
 {
-    let mut lent = [165u8; 256];
+    let mut lent = blank();
     let room = tables::byte(s, 6) as usize;
     let m = calls::make(u, s, &mut lent[..room]);
     let front = head(m.answer, m.a, m.b, m.c);

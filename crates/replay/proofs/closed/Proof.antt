@@ -1,8 +1,10 @@
 -- `closed` meets its contract: opening without numbers is refused.
 use borrow.Author.Needs.{needs}
 use mathlib.Core.Path.{_≡_, ap}
-use lib.ListN.{replicate}
 use native.Mathlib.Omega.{arith}
+use lib.ListN.{replicate}
+use Rattle.rules.specs.Calls.{openChecks}
+use Rattle.rules.specs.Maps.{between}
 use Rattle.rules.specs.Sound.{rangesFit}
 use Rattle.state.specs.Opening as state
 use Rattle.unit.specs.declared.Unit.{Unit}
@@ -15,7 +17,7 @@ open-requires : tie.Need-open-requires
 open-requires c κs = search needs
 
 returns : tie.Need-returns
-unfolding openedOf state.openedOf rangesFit
+unfolding openedOf state.openedOf openChecks rangesFit between
 returns c =
     let o = c .before .«open» in
     let refused : o .result .answer ≡ 2 = ap (λ (x : Opened). x .answer) (o .ensures .exact) in

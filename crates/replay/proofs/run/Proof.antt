@@ -1,10 +1,6 @@
 use borrow.Author.Needs.{needs}
 use Rattle.replay.proofs.run.Statement.{statement}
 use Rattle.replay.proofs.run.Tie as tie
-use Rattle.replay.proofs.run.Reads as reads
-use Rattle.replay.proofs.run.Lts as lts
-use Rattle.replay.proofs.answered.Reads as answered-reads
-use Rattle.tables.proofs.byte.Reads as byte-reads
 
 abbrev Inv-loop : tie.InvT-loop
 Inv-loop input records out₀ units₀ i₀ out units i = ?
@@ -12,83 +8,63 @@ Inv-loop input records out₀ units₀ i₀ out units i = ?
 abbrev μ-loop : tie.MeasureT-loop
 μ-loop input records out₀ units₀ i₀ out units i = ?
 
--- src/main.rt:69:5
 loop-holds : tie.Need-loop-holds Inv-loop μ-loop
 loop-holds c = search needs
 
--- src/main.rt:70:20
 mul-from : tie.Need-mul-from Inv-loop μ-loop
 mul-from c = search needs
 
--- src/main.rt:71:18
 add-to : tie.Need-add-to Inv-loop μ-loop
 add-to c = search needs
 
--- src/main.rt:72:38
 add-byte : tie.Need-add-byte Inv-loop μ-loop
 add-byte c = search needs
 
--- src/main.rt:72:18
 byte-requires : tie.Need-byte-requires Inv-loop μ-loop
 byte-requires c κs = search needs
 
--- src/main.rt:72:17
 cast-k : tie.Need-cast-k Inv-loop μ-loop
 cast-k c = search needs
 
--- src/main.rt:73:17
 mul-u : tie.Need-mul-u Inv-loop μ-loop
 mul-u c = search needs
 
--- src/main.rt:73:17
 array-copy-out-u : tie.Need-array-copy-out-u Inv-loop μ-loop
 array-copy-out-u c = search needs
 
--- src/main.rt:74:32
 sub-answered : tie.Need-sub-answered Inv-loop μ-loop
 sub-answered c = search needs
 
--- src/main.rt:74:32
 part-answered-start : tie.Need-part-answered-start Inv-loop μ-loop
 part-answered-start c = search needs
 
--- src/main.rt:74:32
 part-answered-end : tie.Need-part-answered-end Inv-loop μ-loop
 part-answered-end c = search needs
 
--- src/main.rt:74:55
 mul-answered : tie.Need-mul-answered Inv-loop μ-loop
 mul-answered c = search needs
 
--- src/main.rt:74:13
 answered-requires : tie.Need-answered-requires Inv-loop μ-loop
 answered-requires c κs = search needs
 
--- src/main.rt:75:9
 mul-units : tie.Need-mul-units Inv-loop μ-loop
 mul-units c = search needs
 
--- src/main.rt:75:9
 array-set-from-units : tie.Need-array-set-from-units Inv-loop μ-loop
 array-set-from-units c = search needs
 
--- src/main.rt:76:9
 add-i : tie.Need-add-i Inv-loop μ-loop
 add-i c = search needs
 
--- src/main.rt:69:5
 loop-less : tie.Need-loop-less Inv-loop μ-loop
 loop-less c = search needs
 
--- src/main.rt:69:5
 loop-again : tie.Need-loop-again Inv-loop μ-loop
 loop-again c = search needs
 
--- src/main.rt:58:1
 same-length : tie.Need-same-length Inv-loop μ-loop
 same-length c = search needs
 
--- src/main.rt:58:1
 returns : tie.Need-returns Inv-loop μ-loop
 returns c = search needs
 

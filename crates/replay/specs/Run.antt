@@ -34,11 +34,14 @@ recordAt l i = take 208 (drop (208 * i) l)
 abbrev pub unitAt : List ℕ → ℕ → ℕ
 unitAt l i = byteAt l (208 * i + 1) % 8
 
--- the first records, so many of them
-unfoldable pub runOf : List Unit → List ℕ → List ℕ → ℕ → Given (List Unit)
-runOf units l out zero = record { result = units; output = out }
-runOf units l out (suc i) =
-    let g : Given (List Unit) = runOf units l out i in
+-- record i, where these are the units and the output after those before it
+abbrev pub oneMore : List ℕ → ℕ → Given (List Unit) → Given (List Unit)
+oneMore l i g =
     let k : ℕ = unitAt l i in
     let a : Given Unit = answeredOf (getD (g .result) k closedUnit) (recordAt l i) (g .output) (272 * i) in
     record { result = set (g .result) k (a .result); output = a .output }
+
+-- the first records, so many of them
+unfoldable pub runOf : List Unit → List ℕ → List ℕ → ℕ → Given (List Unit)
+runOf units l out zero = record { result = units; output = out }
+runOf units l out (suc i) = oneMore l i (runOf units l out i)

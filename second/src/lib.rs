@@ -7,6 +7,7 @@ pub mod generate;
 pub mod judge;
 pub mod other;
 pub mod random;
+pub mod replay;
 pub mod script;
 pub mod trace;
 pub mod trials;

@@ -54,35 +54,55 @@ impl Call<'_> {
         }
     }
 
-    /// The number of the call; x, where the call has one; and the bytes that it needs.
-    fn parts(&self) -> (u8, Option<u32>, Vec<u8>) {
-        match self {
-            Call::Open(opening) => (0, Some(opening.cid), opening_bytes(opening)),
-            Call::Send(data) => (1, None, data.to_vec()),
-            Call::Arrive(frame) => (2, None, frame.to_vec()),
-            Call::Request(k) => (3, Some((*k).into()), Vec::new()),
-            Call::Copy(number) => (4, Some(*number), Vec::new()),
-            Call::Take => (5, None, Vec::new()),
-            Call::Ready => (6, None, Vec::new()),
-            Call::Free => (7, None, Vec::new()),
-            Call::Kept => (8, None, Vec::new()),
-            Call::Missing(k) => (9, Some((*k).into()), Vec::new()),
-            Call::Waiting(k) => (10, Some((*k).into()), Vec::new()),
-            Call::Sound => (11, None, Vec::new()),
-            Call::Set(set) => (12, Some(set.value), vec![set.field as u8, set.k, set.j]),
-            Call::Nothing => (NO_CALL, None, Vec::new()),
-        }
-    }
-
     /// Asks for the call in a record that had other contents; what the call does not look at stays.
     pub fn put_in(&self, record: &mut Record) {
-        let (number, x, bytes) = self.parts();
-        record.number = number;
-        record.x = x.unwrap_or(record.x);
+        record.number = self.number();
+        record.x = self.x(record.x);
+        let bytes = self.bytes();
         let counted = bytes.len().min(MOST_BYTES);
         record.bytes[..counted].copy_from_slice(&bytes[..counted]);
         if matches!(self, Call::Send(_) | Call::Arrive(_)) {
-            record.count = counted as u8;
+            record.count = bytes.len().min(u8::MAX.into()) as u8;
+        }
+    }
+
+    fn number(&self) -> u8 {
+        match self {
+            Call::Open(_) => 0,
+            Call::Send(_) => 1,
+            Call::Arrive(_) => 2,
+            Call::Request(_) => 3,
+            Call::Copy(_) => 4,
+            Call::Take => 5,
+            Call::Ready => 6,
+            Call::Free => 7,
+            Call::Kept => 8,
+            Call::Missing(_) => 9,
+            Call::Waiting(_) => 10,
+            Call::Sound => 11,
+            Call::Set(_) => 12,
+            Call::Nothing => NO_CALL,
+        }
+    }
+
+    fn x(&self, old: u32) -> u32 {
+        let with_low_byte = |low_byte: u32| old & !0xff | low_byte & 0xff;
+        match self {
+            Call::Open(opening) => opening.cid,
+            Call::Copy(number) => *number,
+            Call::Set(setting) if setting.is_of_a_byte() => with_low_byte(setting.value),
+            Call::Set(setting) => setting.value,
+            Call::Request(k) | Call::Missing(k) | Call::Waiting(k) => with_low_byte((*k).into()),
+            _ => old,
+        }
+    }
+
+    fn bytes(&self) -> Vec<u8> {
+        match self {
+            Call::Open(opening) => opening_bytes(opening),
+            Call::Send(bytes) | Call::Arrive(bytes) => bytes.to_vec(),
+            Call::Set(setting) => vec![setting.field as u8, setting.k, setting.j],
+            _ => Vec::new(),
         }
     }
 }

@@ -84,6 +84,11 @@ impl Setting {
         }
     }
 
+    /// Whether only the last byte of the value counts.
+    pub(super) fn is_of_a_byte(&self) -> bool {
+        matches!(self.field, Field::Own | Field::Size | Field::Window | Field::MessageLength)
+    }
+
     /// The setting that puts back what this one changes; none where a place is given away.
     pub fn undoing(&self, unit: &Unit) -> Option<Setting> {
         let mut unit = unit.clone();

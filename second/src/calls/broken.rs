@@ -32,8 +32,7 @@ fn set(field: Field, k: usize, j: usize, value: u32) -> Setting {
 
 impl Caller {
     pub fn break_and_mend(&mut self) {
-        let members = self.sound_members();
-        let Some(slot) = self.random.pick(&members) else { return };
+        let Some(slot) = self.some_sound_member() else { return self.aimless() };
         let unit = self.unit(slot).clone();
         let clauses = BREAKINGS.iter().cycle().skip(self.broken % BREAKINGS.len());
         for breaking in clauses.take(BREAKINGS.len()) {
@@ -50,12 +49,12 @@ impl Caller {
         for setting in settings {
             self.call(slot, &Call::Set(*setting), 0);
         }
-        debug_assert!(!self.unit(slot).keeps_the_rules(), "{settings:?}");
+        assert!(!self.unit(slot).keeps_the_rules(), "{settings:?}");
         self.ask_everything(slot, unit);
         for setting in mending {
             self.call(slot, &Call::Set(setting), 0);
         }
-        debug_assert!(self.unit(slot).is_sound(), "{settings:?}");
+        assert!(self.unit(slot).is_sound(), "{settings:?}");
     }
 
     /// Every call, with what the unit could do if it were sound.

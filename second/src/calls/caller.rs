@@ -7,6 +7,8 @@ use crate::random::Random;
 use crate::replay::{Call, Record, Replay, Reply, MOST_BYTES, UNITS};
 use std::collections::VecDeque;
 
+const MOST_IDLE: usize = 60;
+
 /// Member k of the group is the unit at k - 1; where there are fewer than eight, the last unit is a stranger.
 pub struct Caller {
     pub random: Random,
@@ -20,6 +22,8 @@ pub struct Caller {
     pub written: Vec<Vec<u8>>,
     /// How many clauses of soundness were broken so far.
     pub broken: usize,
+    /// How often there was nothing to carry on with since the group was opened.
+    pub idle: usize,
 }
 
 impl Caller {
@@ -35,6 +39,7 @@ impl Caller {
             inboxes: vec![VecDeque::new(); size],
             written: Vec::new(),
             broken,
+            idle: 0,
         }
     }
 
@@ -42,9 +47,10 @@ impl Caller {
     pub fn episode(&mut self) {
         self.inboxes = vec![VecDeque::new(); self.size];
         self.written.clear();
+        self.idle = 0;
         self.open_all();
         let end = self.records.len() + self.manner.calls;
-        while self.records.len() < end {
+        while self.records.len() < end && self.idle < MOST_IDLE {
             self.step();
         }
         if self.manner.broken > 0 {
@@ -135,6 +141,13 @@ impl Caller {
 
     pub fn sound_members(&self) -> Vec<usize> {
         (0..self.size).filter(|&slot| self.unit(slot).is_sound()).collect()
+    }
+
+    /// A sound member, mostly the first where it is alone.
+    pub fn some_sound_member(&mut self) -> Option<usize> {
+        let members = self.sound_members();
+        let first = members.first().copied().filter(|_| self.manner.alone);
+        if self.random.one_in(6) { None } else { first }.or_else(|| self.random.pick(&members))
     }
 
     /// A room that is one byte too short, exactly right or longer.

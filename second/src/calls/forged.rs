@@ -8,9 +8,7 @@ use crate::trials::{damage, noise};
 
 impl Caller {
     pub fn forged(&mut self) {
-        let members = self.sound_members();
-        let first = members.first().copied().filter(|_| self.manner.alone);
-        let Some(slot) = first.or_else(|| self.random.pick(&members)) else { return };
+        let Some(slot) = self.some_sound_member() else { return self.aimless() };
         let frame = self.forged_frame(&self.unit(slot).clone());
         self.arrive(slot, &frame);
     }

@@ -19,9 +19,9 @@ pub struct Manner {
     pub loss: usize,
     /// One time in how many a unit sends although frames could arrive.
     pub haste: usize,
-    /// Whether half of the units never take.
+    /// Whether half of the units never take, and the first one sends whenever it can.
     pub hoarding: bool,
-    /// Whether frames that nobody wrote arrive at the first unit alone.
+    /// Whether what is not useful mostly befalls the first unit.
     pub alone: bool,
     /// Whether first numbers are near the last one.
     pub late: bool,
@@ -35,24 +35,24 @@ impl Manner {
     pub fn of(kind: u64, size: usize, random: &mut Random) -> Manner {
         let talk = Manner {
             aimless: 5,
-            loss: random.below(4),
-            haste: random.between(3, 10),
+            haste: random.between(4, 20),
             episodes: 1,
-            calls: 90 * size + 80,
+            calls: 160 * size,
             ..Manner::default()
         };
-        let short = Manner { episodes: 3, calls: 130, aimless: 10, ..talk.clone() };
+        let short = Manner { episodes: 2, calls: 150, aimless: 10, ..talk.clone() };
+        let alone = Manner { alone: true, forged: 70, calls: 200, ..short.clone() };
         match kind % 10 {
             0 => talk,
             1 => Manner { late: true, ..talk },
-            2 => Manner { loss: random.between(5, 15), forged: 1, spoiled: 2, ..talk },
-            3 => Manner { hoarding: true, calls: talk.calls + 100, ..talk },
-            4 => Manner { forged: 75, alone: true, episodes: 2, calls: 220, ..talk },
-            5 => Manner { forged: 60, alone: true, hoarding: true, late: true, ..short },
+            2 => Manner { loss: random.between(1, 16 / size), spoiled: 1, ..talk },
+            3 => Manner { hoarding: true, ..talk },
+            4 => alone,
+            5 => Manner { hoarding: true, late: true, ..alone },
             6 => Manner { forged: 10, spoiled: 25, loss: 10, ..short },
-            7 => Manner { broken: 7, episodes: 2, calls: 300, ..talk },
-            8 => Manner { odd: 12, forged: 35, ..short },
-            _ => Manner { odd: 4, forged: 15, spoiled: 4, broken: 2, late: true, ..short },
+            7 => Manner { broken: 6, calls: 60 * size + 250, ..talk },
+            8 => Manner { odd: 10, forged: 55, calls: 250, ..alone },
+            _ => Manner { odd: 4, forged: 20, spoiled: 4, broken: 2, late: true, ..short },
         }
     }
 }

@@ -6,8 +6,7 @@ use crate::replay::{Call, Field, Setting};
 
 impl Caller {
     pub fn make_odd(&mut self) {
-        let members = self.sound_members();
-        let Some(slot) = self.random.pick(&members) else { return };
+        let Some(slot) = self.some_sound_member() else { return self.aimless() };
         let unit = self.unit(slot).clone();
         let settings = if unit.kept.is_empty() && self.random.one_in(6) {
             self.jump(&unit)
@@ -25,7 +24,7 @@ impl Caller {
     fn odd_setting(&mut self, unit: &Unit) -> Option<Setting> {
         let k = self.random.between(1, unit.size);
         let j = self.random.between(1, unit.size);
-        let (field, value) = match self.random.below(20) {
+        let (field, value) = match self.random.below(24) {
             0..3 => (Field::Heard, self.near(unit.heard[k - 1])),
             3..6 => (Field::Req, self.near(unit.req[k - 1])),
             6..9 => (Field::Al, self.near(unit.al[k - 1][j - 1])),

@@ -37,9 +37,11 @@ impl Caller {
     /// Those past n are numbers of no unit, and may be anything.
     fn some_firsts(&mut self) -> [u32; UNITS] {
         let style = self.random.below(4);
+        let is_short = self.manner.episodes > 1;
+        let margin = if is_short { self.random.pick(&[2, 8]).unwrap_or(2) } else { 30 };
         std::array::from_fn(|at| {
             let any = self.random.number() as u32;
-            let late = u32::MAX - self.random.below(12) as u32;
+            let late = u32::MAX - self.random.between(margin / 2, margin) as u32;
             let first = match style {
                 _ if self.manner.late => late,
                 0 => 1,

@@ -9,14 +9,15 @@ use crate::replay::{Call, UNITS};
 impl Caller {
     pub fn useful(&mut self) {
         let in_haste = self.random.one_in(self.manner.haste);
-        let done = self.random.one_in(2) && self.take()
-            || self.random.one_in(4) && self.ask()
+        let done = self.random.one_in(3) && self.take()
+            || self.random.one_in(3) && self.ask()
             || in_haste && self.send()
             || self.deliver()
             || self.send()
             || self.take()
             || self.remind();
         if !done {
+            self.idle += 1;
             self.aimless();
         }
     }
@@ -35,11 +36,15 @@ impl Caller {
         self.manner.hoarding && slot.is_multiple_of(2)
     }
 
-    /// Asks for what is known to be missing.
+    /// Asks for what is known to be missing, mostly where no frame is on its way.
     fn ask(&mut self) -> bool {
         let mut missing = Vec::new();
+        let patient = !self.random.one_in(12);
         for slot in self.sound_members() {
             let unit = self.unit(slot);
+            if patient && !self.inboxes[slot].is_empty() {
+                continue;
+            }
             let lacks = |&k: &usize| k != unit.own && unit.heard[k - 1] > unit.req[k - 1];
             missing.extend((1..=unit.size).filter(lacks).map(|k| (slot, k)));
         }
@@ -49,17 +54,20 @@ impl Caller {
         true
     }
 
-    /// Of the units that may send, mostly one that sent least.
+    /// Of the units that may send, mostly one that keeps least; seldom one without a free place.
     fn send(&mut self) -> bool {
+        let dares = self.random.one_in(8);
         let may_send = |unit: &Unit| {
             let own_places = unit.places_taken_by(unit.own);
-            unit.window_is_open() && SENDABLE.contains(&unit.seq) && own_places < 4 * unit.window
+            let has_place = own_places < 4 * unit.window || dares;
+            unit.window_is_open() && SENDABLE.contains(&unit.seq) && has_place
         };
         let mut ready = self.sound_members();
         ready.retain(|&slot| may_send(self.unit(slot)));
-        let is_kept_from = |&slot: &usize| self.unit(slot).kept.len();
-        let quietest = ready.iter().copied().min_by_key(is_kept_from);
-        let chosen = if self.random.one_in(3) { self.random.pick(&ready) } else { quietest };
+        let quietest = ready.iter().copied().min_by_key(|&slot| self.unit(slot).kept.len());
+        let talker = ready.first().copied().filter(|&slot| slot == 0 && self.manner.hoarding);
+        let any = if self.random.one_in(3) { self.random.pick(&ready) } else { None };
+        let chosen = talker.or(any).or(quietest);
         let Some(slot) = chosen else { return false };
         let length = match self.random.below(8) {
             0 | 1 => 0,

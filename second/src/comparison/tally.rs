@@ -7,7 +7,7 @@ use std::fmt;
 
 const FEWEST_CALLS: usize = 50_000;
 const LARGEST: usize = 8;
-const FEWEST_COMPLETE_OF_LARGEST: usize = 6;
+const FEWEST_COMPLETE_OF_LARGEST: usize = 4;
 
 #[derive(Clone, Copy, Debug, PartialEq, Eq, PartialOrd, Ord)]
 enum Kind {

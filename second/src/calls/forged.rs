@@ -22,7 +22,7 @@ impl Caller {
             _ => self.random.pick(&self.written).unwrap_or_default(),
         };
         let bytes = if frames::read(&frame).is_some() {
-            let [sorts @ ..] = damage::all(&frame, &mut self.random);
+            let sorts = damage::all(&frame, &mut self.random);
             let (_, damaged) = self.random.pick(&sorts).unwrap_or_else(|| sorts[0].clone());
             self.random.pick(&damaged).unwrap_or_default()
         } else {

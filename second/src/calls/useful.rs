@@ -150,29 +150,26 @@ impl Caller {
     pub fn aimless_call(&mut self, slot: usize) {
         let any_k = self.random.byte();
         let k = if self.random.one_in(12) { any_k } else { self.random.below(self.size + 2) as u8 };
-        let room = self.random.byte().into();
-        match self.random.below(16) {
-            0 => self.call(slot, &Call::Ready, room),
-            1 => self.call(slot, &Call::Free, room),
-            2 => self.call(slot, &Call::Kept, room),
-            3 | 4 => self.call(slot, &Call::Missing(k), room),
-            5 | 6 => self.call(slot, &Call::Waiting(k), room),
-            7 => self.call(slot, &Call::Sound, room),
-            8 => self.call(slot, &Call::Request(k), room),
-            9 | 10 => {
-                let number = self.near(self.unit(slot).seq);
-                self.call(slot, &Call::Copy(number), room)
-            }
-            11 => self.call(slot, &Call::Take, room),
-            12 => {
-                let any_length = self.random.below(256);
-                let length = self.random.pick(&[0, 48, 49, any_length]).unwrap_or(0);
-                let data = self.some_bytes(length);
-                self.call(slot, &Call::Send(&data), room)
-            }
-            13 => self.nothing(slot),
+        let near = self.near(self.unit(slot).seq);
+        let any_length = self.random.below(256);
+        let length = self.random.pick(&[0, 48, 49, any_length]).unwrap_or(0);
+        let data = self.some_bytes(length);
+        let call = match self.random.below(16) {
+            0 => Call::Ready,
+            1 => Call::Free,
+            2 => Call::Kept,
+            3 | 4 => Call::Missing(k),
+            5 | 6 => Call::Waiting(k),
+            7 => Call::Sound,
+            8 => Call::Request(k),
+            9 | 10 => Call::Copy(near),
+            11 => Call::Take,
+            12 => Call::Send(&data),
+            13 => return self.ask_for_nothing(slot),
             _ => return self.arrive_again(slot),
         };
+        let room = self.random.byte().into();
+        self.call(slot, &call, room);
     }
 
     /// Any frame that was written in this group arrives.
@@ -182,10 +179,10 @@ impl Caller {
     }
 
     /// A call that there is not, or a setting of what there is not.
-    fn nothing(&mut self, slot: usize) -> crate::replay::Reply {
+    fn ask_for_nothing(&mut self, slot: usize) {
         let mut record = self.any_record(slot);
         record.number = self.random.between(12, 255) as u8;
         record.bytes[0] = self.random.between(14, 255) as u8;
-        self.make(record)
+        self.make(record);
     }
 }

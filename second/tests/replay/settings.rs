@@ -17,30 +17,32 @@ fn busy() -> Replay {
     replay
 }
 
+/// What is set, k, j and the value that breaks a clause of a busy unit.
+const BREAKINGS: [(Field, u8, u8, u32); 19] = [
+    (Field::Own, 0, 0, 0),
+    (Field::Own, 0, 0, 3),
+    (Field::Size, 0, 0, 1),
+    (Field::Size, 0, 0, 9),
+    (Field::Window, 0, 0, 1),
+    (Field::Window, 0, 0, 5),
+    (Field::Seq, 0, 0, 0),
+    (Field::Seq, 0, 0, 3),
+    (Field::Req, 1, 0, 5),
+    (Field::Req, 2, 0, 0),
+    (Field::Heard, 2, 0, 0),
+    (Field::Al, 2, 1, 0),
+    (Field::Al, 1, 2, 1),
+    (Field::Pal, 1, 2, 0),
+    (Field::MessageSeq, 0, 0, 0),
+    (Field::MessageSeq, 1, 0, u32::MAX),
+    (Field::MessageLength, 2, 0, 49),
+    (Field::MessageLength, 0, 0, 255),
+    (Field::MessageAck, 1, 2, 0),
+];
+
 #[test]
 fn each_clause_breaks_and_mends() {
-    let breakings = [
-        (Field::Own, 0, 0, 0),
-        (Field::Own, 0, 0, 3),
-        (Field::Size, 0, 0, 1),
-        (Field::Size, 0, 0, 9),
-        (Field::Window, 0, 0, 1),
-        (Field::Window, 0, 0, 5),
-        (Field::Seq, 0, 0, 0),
-        (Field::Seq, 0, 0, 3),
-        (Field::Req, 1, 0, 5),
-        (Field::Req, 2, 0, 0),
-        (Field::Heard, 2, 0, 0),
-        (Field::Al, 2, 1, 0),
-        (Field::Al, 1, 2, 1),
-        (Field::Pal, 1, 2, 0),
-        (Field::MessageSeq, 0, 0, 0),
-        (Field::MessageSeq, 1, 0, u32::MAX),
-        (Field::MessageLength, 2, 0, 49),
-        (Field::MessageLength, 0, 0, 255),
-        (Field::MessageAck, 1, 2, 0),
-    ];
-    for (field, k, j, value) in breakings {
+    for (field, k, j, value) in BREAKINGS {
         let mut replay = busy();
         set(&mut replay, 0, Field::Cid, 0, 0, 8);
         let before = replay.clone();

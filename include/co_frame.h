@@ -21,9 +21,9 @@ enum {
     CO_OPENING = 2,         /* opening outside the ranges */
     CO_NO_FRAME = 3,        /* not a frame */
     CO_OTHER_GROUP = 4,     /* CID differs */
-    CO_NO_UNIT = 5,         /* wrong count of ACK, or a sender or unit that is not one of the group */
+    CO_NO_UNIT = 5,         /* wrong count of ACK, a sender or unit that is not one of the group, or a request for oneself */
     CO_OWN_FRAME = 6,       /* SRC is this unit */
-    CO_OUT_OF_RANGE = 7,    /* a number that this unit cannot have caused */
+    CO_OUT_OF_RANGE = 7,    /* a number that cannot be: of ACK, BUF or LSEQ */
     CO_OLD = 8,             /* the number was accepted before */
     CO_GAP = 9,             /* an earlier number of the sender is missing */
     CO_EARLY = 10,          /* a message that it names is missing */

@@ -11,7 +11,7 @@ use borrow.Author.Tests.{ne-eqb, le-leb, lt-leb}
 use Rattle.rules.specs.Maps.{between, all, among}
 use Rattle.rules.specs.Fields.{Row as Line, noRow, table, rowOf}
 use Rattle.rules.proofs.MapsLaws.{and-false, and-both, between-low, between-high}
-use Rattle.rules.proofs.FieldsLaws.{all-rowOf, usable-rowOf, tagsLeft, tagsLeft-step, tagsLeft-end}
+use Rattle.rules.proofs.FieldsLaws.{all-rowOf, rowOf-line, usable-rowOf, tagsLeft, tagsLeft-step, tagsLeft-end}
 use Rattle.rules.proofs.MessageLaws.{table-usable}
 use Rattle.frame.specs.declared.table.Row.{Row}
 use Rattle.frame.specs.Table.{lineOf, has, lengthFits}
@@ -22,13 +22,15 @@ getD-any (x ∷ l) zero d e h = refl
 getD-any (x ∷ l) (suc i) d e h = getD-any l i d e (omega arith)
 
 pub row-of-tag : (t : ℕ) (d : Row) → 0 < t → t ≤ 10 → getD (map lineOf table) (t - 1) d ≡ lineOf (rowOf table t)
-unfolding table rowOf
+unfolding table
 row-of-tag t d low high =
-    getD-any (map lineOf table) (t - 1) d (lineOf noRow) (omega arith) ∙ List·getD-map lineOf table (t - 1) noRow
+    getD-any (map lineOf table) (t - 1) d (lineOf noRow) (omega arith)
+    ∙ List·getD-map lineOf table (t - 1) noRow
+    ∙ ap lineOf (sym (rowOf-line table t low))
 
 pub row-past : (t : ℕ) → 10 < t → lineOf noRow ≡ lineOf (rowOf table t)
-unfolding table rowOf
-row-past t h = ap lineOf (sym (List·getD-eq-default table noRow {n = t - 1} (omega arith)))
+unfolding table
+row-past t h = ap lineOf (sym (rowOf-line table t (omega arith) ∙ List·getD-eq-default table noRow {n = t - 1} (omega arith)))
 
 -- the test of a table: each kind is 1 or 2
 abbrev twoKinds : Line → Bool

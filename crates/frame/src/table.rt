@@ -96,21 +96,22 @@ const TABLE: [Row; 10] = [
     },
 ];
 
-// The line of a tag; past the table, a line of no kind.
+// The line of a tag; for tag 0 and past the table, a line of no kind.
 pub fn row_of(tag: u8) -> Row
     ensures { λ r. ⌜ r ≡ lineOf (rowOf table tag) ⌝ }
 {
+    let none = Row {
+        width: 1,
+        least: 0,
+        greatest: 0,
+        message: false,
+        request: false,
+    };
     if tag == 0 {
-        return TABLE[0];
+        return none;
     }
     if 10 < tag {
-        return Row {
-            width: 1,
-            least: 0,
-            greatest: 0,
-            message: false,
-            request: false,
-        };
+        return none;
     }
     TABLE[(tag - 1) as usize]
 }

@@ -4,7 +4,6 @@ use mathlib.Core.List.{List, [], _∷_}
 use mathlib.Core.Option.{Option, none, some}
 use mathlib.Core.Path.{_≡_, refl, sym, subst}
 use Prim.Native.Nat.{ℕ, _-_, _<_}
-use native.Mathlib.Omega.{arith}
 use lib.Dec.{ltb}
 use lib.ListN.{length}
 use borrow.Author.Tests.{not-true, not-false}
@@ -177,14 +176,6 @@ module _ (s : State) where
 
   pub done-sound : {c : Call} {r : Result} → Done c r → sound s ≡ true
   done-sound {c} d = not-false (sound s) (subst (λ (l : List Check). Passed l) (checksOf-first c .whole) (done-passed d) .0)
-
-  -- a call that answers 0 was done
-  pub zero-done : (c : Call) → call s c .answer ≡ 0 → Done c (call s c)
-  zero-done c = call-cases (λ r. r .answer ≡ 0 → Done c r) c (λ a r e. absurd (nonzero a e (refused-cases c a r))) (λ r d e. d)
-    where
-      nonzero : (a : ℕ) → a ≡ 0 → Refuses a → ⊥
-      nonzero a e (is-unsound x h) = omega arith
-      nonzero a e (is-sound x h) = omega arith
 
   -- the five ways in which a call can change the unit
   pub record Ways (Q : State → Type 0) : Type 0 where

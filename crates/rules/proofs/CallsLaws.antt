@@ -1,16 +1,14 @@
 -- Each call by cases: a property of its result is shown for each refusal and for the step, once.
-use mathlib.Core.Bool.{Bool, true, false, cond, not}
+use mathlib.Core.Bool.{Bool, true, false, cond}
 use mathlib.Core.List.{List, [], _∷_}
-use mathlib.Core.Option.{Option, none, some}
 use mathlib.Core.Path.{_≡_, refl}
 use Prim.Native.Nat.{ℕ, _-_}
 use lib.ListN.{length}
 use Rattle.rules.specs.Maps.{among}
-use Rattle.rules.specs.Message.{Message, Request, Said, message, request, encode, decode}
+use Rattle.rules.specs.Message.{Message, Request, message, request, encode}
 use Rattle.rules.specs.State.{State}
 use Rattle.rules.specs.Steps.{outgoing, noted, asking, resentFrom, resentTo, accepted, sent, withoutTaken}
-use Rattle.rules.specs.Sound.{sound}
-use Rattle.rules.specs.Calls.{Check, _⇒_, decide, Result, refusal, written, sendChecks, send, dataChecks, arriveData, requestChecks, arriveRequest, arriveSaid, arrive, makeChecks, makeRequest, copyChecks, copy, oldest, takeChecks, take}
+use Rattle.rules.specs.Calls.{Check, decide, Result, refusal, written, sendChecks, send, dataChecks, arriveData, requestChecks, arriveRequest, makeChecks, makeRequest, copyChecks, copy, oldest, takeChecks, take}
 
 -- no test holds
 abbrev pub Passed : List Check → Type 0
@@ -51,19 +49,6 @@ module _ (s : State) (P : Result → Type 0) where
       → P (arriveRequest s r)
   unfolding arriveRequest
   request-cases r f g = decide-cases P _ _ (requestChecks s r) f g
-
-  pub arrive-cases : (l : List ℕ) → ((a : ℕ) → Refused a ((not (sound s) ⇒ 1) ∷ (true ⇒ 3) ∷ []) → P (refusal 2 s [] a))
-      → ((p : Message) → decode l ≡ some (message p) → P (arriveData s p)) → ((r : Request) → decode l ≡ some (request r) → P (arriveRequest s r)) → P (arrive s l)
-  unfolding arrive
-  arrive-cases l f g h = go (decode l) (λ p e. g p e) (λ r e. h r e)
-    where
-      go : (o : Option Said) → ((p : Message) → o ≡ some (message p) → P (arriveData s p)) → ((r : Request) → o ≡ some (request r) → P (arriveRequest s r)) → P (arriveSaid s o)
-      go none g h = decide-cases P _ _ ((not (sound s) ⇒ 1) ∷ []) (λ a r. one a r) (λ p. f 3 (later (p .0) (now refl refl)))
-        where
-          one : (a : ℕ) → Refused a ((not (sound s) ⇒ 1) ∷ []) → P (refusal 2 s [] a)
-          one a (now x y) = f a (now x y)
-      go (some (message p)) g h = g p refl
-      go (some (request r)) g h = h r refl
 
   pub make-cases : (k : ℕ) (out : List ℕ) → ((a : ℕ) → Refused a (makeChecks s k out) → P (refusal 1 s out a))
       → (Passed (makeChecks s k out)

@@ -152,7 +152,7 @@ own-sends =
       stated = (1 ∷ three 1 1 1) ∷ (2 ∷ three 2 1 1) ∷ (3 ∷ three 3 2 2) ∷ (4 ∷ three 4 2 2) ∷ [];
     }
 
--- all are accepted; the AL rows; what is confirmed; a c b d e
+-- all are accepted; the AL rows; one is confirmed, of a c b d e
 after-h : Case
 after-h =
     let s = after unit-1 to-h in
@@ -162,14 +162,14 @@ after-h =
           ∷ listed 1 3 (s .al 1)
           ∷ listed 1 3 (s .al 2)
           ∷ listed 1 3 (s .al 3)
-          ∷ names (s .confirmed)
-          ++ names (s .confirmed ++ s .ordered);
+          ∷ (length (s .confirmed) ∷ [])
+          ∷ names (s .confirmed ++ s .ordered);
       stated =
           replicate 8 0
           ∷ three 4 4 5
           ∷ three 2 2 3
           ∷ three 2 2 2
-          ∷ (1 ∷ 1 ∷ [])
+          ∷ (1 ∷ [])
           ∷ (1 ∷ 1 ∷ [])
           ∷ (1 ∷ 2 ∷ [])
           ∷ (3 ∷ 1 ∷ [])

@@ -1,4 +1,4 @@
--- Lists of checks: a refusal answers with one of their numbers, and a call that answers 0 has passed them all.
+-- Lists of checks: a refusal answers with one of their numbers, and so above what they all are above.
 use mathlib.Core.Bool.{Bool, true, false, _||_, true≢false}
 use mathlib.Core.List.{List, map}
 use mathlib.Core.Path.{_≡_, refl, sym, subst}

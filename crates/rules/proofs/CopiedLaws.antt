@@ -1,10 +1,9 @@
 -- A kept frame is copied out exactly as it was first sent, after any calls while it is kept.
-use mathlib.Core.Bool.{Bool, true, false}
+use mathlib.Core.Bool.{true}
 use mathlib.Core.List.{List, [], _∷_}
 use mathlib.Core.Path.{_≡_, refl, sym, ap, _∙_}
 use Prim.Native.Nat.{ℕ, _≤_}
 use native.Mathlib.Omega.{arith}
-use lib.Dec.{ltb}
 use lib.ListN.{length, take, drop}
 use lib.Seq.{take-append-seam, drop-append-seam}
 use borrow.Author.Tests.{le-ltb, not-false}
@@ -13,7 +12,7 @@ use Rattle.rules.specs.Message.{message, encode}
 use Rattle.rules.specs.State.{State}
 use Rattle.rules.specs.Steps.{outgoing, isKept}
 use Rattle.rules.specs.Sound.{sound}
-use Rattle.rules.specs.Calls.{Result, refusal, written, sendChecks, send, copyChecks, copy, Call, sends, call}
+use Rattle.rules.specs.Calls.{Result, written, sendChecks, send, copyChecks, copy, Call, sends, call}
 use Rattle.rules.proofs.CallsLaws.{send-cases}
 use Rattle.rules.proofs.ChecksLaws.{refused-above}
 use Rattle.rules.proofs.SoundLaws.{sound-facts}
@@ -23,24 +22,10 @@ use Rattle.rules.proofs.KeptLaws.{Keeps, keeps-refl, keeps-trans, Adds,
 -- ---- copying out from a sound unit
 
 module _ (s : State) (x : ℕ) (out : List ℕ) (h : sound s ≡ true) where
-  pub copy-unkept : isKept s x ≡ false → copy s x out ≡ refusal 1 s out 18
-  unfolding copy copyChecks
-  copy-unkept k = rw (h, k)
-
   pub copy-kept : isKept s x ≡ true → length (s .kept x) ≤ length out
       → copy s x out ≡ record { answer = 0; numbers = length (s .kept x) ∷ []; next = s; output = written out (s .kept x) }
   unfolding copy copyChecks
   copy-kept k room = rw (h, k, le-ltb (length out) (length (s .kept x)) room)
-
-  -- so the kept numbers are those not answered with 18
-  pub unkept-copy : copy s x out .answer ≡ 18 → isKept s x ≡ false
-  unfolding copy copyChecks
-  unkept-copy e = go (isKept s x) (ltb (length out) (length (s .kept x))) refl refl
-    where
-      go : (k t : Bool) → isKept s x ≡ k → ltb (length out) (length (s .kept x)) ≡ t → k ≡ false
-      go false t a b = refl
-      go true true a b = let z : copy s x out .answer ≡ 16 = rw (h, a, b) in absurd (omega arith)
-      go true false a b = let z : copy s x out .answer ≡ 0 = rw (h, a, b) in absurd (omega arith)
 
 -- ---- any calls in turn
 

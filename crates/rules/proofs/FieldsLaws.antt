@@ -27,7 +27,14 @@ all-getD p d (r ∷ rs) h (suc i) = all-getD p d rs (and-right (p r) (all p rs) 
 -- what the test finds of each line of a table holds of the line of any tag
 pub all-rowOf : (p : Row → Bool) → p noRow ≡ true → (rs : List Row) → all p rs ≡ true → (t : ℕ) → p (rowOf rs t) ≡ true
 unfolding rowOf
-all-rowOf p d rs h t = all-getD p d rs h (t - 1)
+all-rowOf p d rs h zero = d
+all-rowOf p d rs h (suc i) = all-getD p d rs h i
+
+-- the line of a tag from 1 on, counted from 0
+pub rowOf-line : (rs : List Row) (t : ℕ) → 1 ≤ t → rowOf rs t ≡ getD rs (t - 1) noRow
+unfolding rowOf
+rowOf-line rs zero h = absurd (omega arith)
+rowOf-line rs (suc i) h = ap (λ x. getD rs x noRow) (let e : i ≡ suc i - 1 = omega arith in e)
 
 -- the test of a table: each width is not 0, and each length fits two bytes
 abbrev usableRow : Row → Bool
@@ -54,12 +61,12 @@ tagsLeft rs t k = tagsFrom t (drop (t - 1) rs) k
 module _ (rs : List Row) (t k : ℕ) where
   pub tagsLeft-step : 1 ≤ t → t ≤ length rs
       → tagsLeft rs t k ≡ cond (among k (rowOf rs t .kinds)) (t ∷ tagsLeft rs (t + 1) k) (tagsLeft rs (t + 1) k)
-  unfolding rowOf
   tagsLeft-step low high =
       let after : ℕ → ℕ → List ℕ = λ i u. tagsFrom u (drop i rs) k in
       let next : suc t ≡ t + 1 = omega arith in
       let place : suc (t - 1) ≡ t + 1 - 1 = omega arith in
       ap (λ l. tagsFrom t l k) (drop-cons rs (t - 1) noRow (omega arith))
+      ∙ ap (λ r. cond (among k (r .kinds)) (t ∷ after (suc (t - 1)) (suc t)) (after (suc (t - 1)) (suc t))) (sym (rowOf-line rs t low))
       ∙ ap₂ (λ i u. cond (among k (rowOf rs t .kinds)) (t ∷ after i u) (after i u)) place next
 
   pub tagsLeft-end : t ≡ length rs + 1 → tagsLeft rs t k ≡ []

@@ -9,12 +9,12 @@ use native.Mathlib.Nat.{le-refl}
 use borrow.Author.Tests.{le-leb}
 use Rattle.rules.specs.Maps.{column, at}
 use Rattle.rules.specs.Message.{Message, message, encode}
-use Rattle.rules.specs.State.{Place, State, minAL}
-use Rattle.rules.specs.Steps.{keeping, outgoing, stored, noted, isKept, withLists, preacked, preackTo, moved, accepted, sent, withoutTaken}
+use Rattle.rules.specs.State.{State, minAL}
+use Rattle.rules.specs.Steps.{keeping, outgoing, stored, noted, isKept, withLists, accepted, sent, withoutTaken}
 use Rattle.rules.specs.Sound.{sound}
 use Rattle.rules.specs.Calls.{Result, Call, sends, call}
 use Rattle.rules.proofs.MapsLaws.{upd-same, upd-other, column-same, least-le}
-use Rattle.rules.proofs.StepsLaws.{preackTo-all, confirm-all}
+use Rattle.rules.proofs.StepsLaws.{settles-lists}
 use Rattle.rules.proofs.CallCases.{Done, done-sends, done-data, done-request, done-asks, done-copies, done-takes, call-cases, next-all}
 use Rattle.rules.proofs.Demand1Laws.{refused-refusing}
 use Rattle.rules.proofs.SoundLaws.{Sound, sound-facts}
@@ -27,16 +27,8 @@ use Rattle.rules.proofs.RequestLaws.{isKept-facts, facts-isKept}
 pub settled-rest : (s : State) (p : Message)
     → let t = accepted s p in
     withLists (stored s p) (t .pal) (t .waiting) (t .ordered) (t .confirmed) ≡ t
-unfolding accepted preacked moved
-settled-rest s p =
-    confirm-all Rest (λ t q qs h ready. more t _ _ _ _ h) (preackTo (s .n) (stored s p))
-    (preackTo-all Rest (λ j t q qs h due. more t _ _ _ _ h) (s .n) (stored s p) refl .0)
-  where
-    Rest : State → Type 0
-    Rest t = withLists (stored s p) (t .pal) (t .waiting) (t .ordered) (t .confirmed) ≡ t
-
-    more : (t : State) (pal : ℕ → ℕ → ℕ) (w o c : List Place) → Rest t → Rest (withLists t pal w o c)
-    more t pal w o c e = ap (λ (z : State). withLists z pal w o c) e
+unfolding accepted
+settled-rest s p = sym (settles-lists (s .n) (stored s p))
 
 -- ---- what stays kept
 

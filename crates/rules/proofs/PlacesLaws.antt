@@ -9,11 +9,11 @@ use borrow.Author.Tests.{eqb-true, eq-eqb, ne-eqb}
 use Rattle.rules.specs.Maps.{all}
 use Rattle.rules.specs.State.{Place, State, taken, from}
 use Rattle.rules.specs.Message.{Message}
-use Rattle.rules.specs.Steps.{placed, stored, insert, withoutOldest, preacked, preackTo, moved, accepted, withoutTaken}
+use Rattle.rules.specs.Steps.{placed, stored, insert, withoutOldest, preacked, moved, withoutTaken}
 use Rattle.rules.specs.Sound.{samePlace, once}
 use Rattle.rules.proofs.MapsLaws.{Eq?, same, other, eq?, and-left, and-right, and-intro}
 use Rattle.rules.proofs.InsertLaws.{inserted}
-use Rattle.rules.proofs.StepsLaws.{Due, Ready, preackTo-all, confirm-all}
+use Rattle.rules.proofs.StepsLaws.{Due, Ready}
 
 -- ---- members of a list
 
@@ -89,16 +89,6 @@ module _ (f : Place → ℕ) where
   pub tally-stored : (s : State) (p : Message) → tally (taken (stored s p)) ≡ f (placed s p) + tally (taken s)
   unfolding stored
   tally-stored s p = omega (arith, tally-taken s, tally-taken (stored s p), tally-append (s .waiting) (placed s p ∷ []))
-
-  -- settling moves places between the lists, and takes or frees none
-  pub tally-accepted : (s : State) (p : Message) → tally (taken (accepted s p)) ≡ f (placed s p) + tally (taken s)
-  unfolding accepted
-  tally-accepted s p =
-      confirm-all Same (λ t q qs h ready. tally-moved t q qs ready ∙ h) (preackTo (s .n) (stored s p))
-      (preackTo-all Same (λ j t q qs h due. tally-preacked j t q qs due ∙ h) (s .n) (stored s p) (tally-stored s p) .0)
-    where
-      Same : State → Type 0
-      Same t = tally (taken t) ≡ f (placed s p) + tally (taken s)
 
   pub tally-withoutTaken : (s : State) (p : Place) (ps : List Place) → s .confirmed ≡ p ∷ ps → f p + tally (taken (withoutTaken s)) ≡ tally (taken s)
   unfolding withoutTaken

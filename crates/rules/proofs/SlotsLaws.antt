@@ -7,7 +7,7 @@ use Prim.Native.Nat.{ℕ, zero, suc, _+_, _*_, _≤_, _<_}
 use native.Mathlib.Omega.{arith}
 use lib.Dec.{eqb, ltb}
 use lib.ListN.{length}
-use borrow.Author.Tests.{leb-false, leb-true, ltb-true, ltb-false, lt-ltb, eq-eqb, ne-eqb}
+use borrow.Author.Tests.{leb-false, ltb-true, ltb-false, lt-ltb, eq-eqb, ne-eqb}
 use Rattle.rules.specs.Maps.{among}
 use Rattle.rules.specs.Message.{Message}
 use Rattle.rules.specs.State.{Place, State, taken, from, places, free}
@@ -16,7 +16,7 @@ use Rattle.rules.specs.Calls.{full}
 use Rattle.rules.proofs.MapsLaws.{Lt?, lt, ge, lt?, Eq?, same, other, eq?}
 use Rattle.rules.proofs.PlacesLaws.{bit, tally, stands, count}
 use Rattle.rules.proofs.SoundLaws.{Sound}
-use Rattle.rules.proofs.SumsLaws.{sum, sum-same, sum-le, sum-most, sum-hit, sum-once, sum-gap, sum-tally, tally-le}
+use Rattle.rules.proofs.SumsLaws.{sum, sum-same, sum-le, sum-most, sum-hit, sum-once, sum-tally, tally-le}
 
 -- ---- lengths as counts
 
@@ -132,10 +132,6 @@ among-count j k (p ∷ l) = rw (eqb-comm j (p .src)) (go (eqb (p .src) j) (among
 -- ---- a unit's places
 
 module _ (s : State) (j : ℕ) where
-  pub freeSlot-le : freeSlot s j ≤ 4 * s .w
-  unfolding freeSlot
-  freeSlot-le = omega (arith, firstFree-le (slotsOf j (taken s)) 0 (4 * s .w))
-
   -- where the slot found is one of the 4W, no place stands there
   pub freeSlot-count : freeSlot s j < 4 * s .w → count j (freeSlot s j) (taken s) ≡ 0
   unfolding freeSlot
@@ -207,23 +203,3 @@ module _ (s : State) (f : Sound s) where
   pub free-taken : free s + length (taken s) ≡ places s
   unfolding free
   free-taken = omega (arith, taken-most)
-
-  -- a sender is full exactly where no slot is free
-  pub full-freeSlot : (j : ℕ) → full s j ≡ eqb (freeSlot s j) (4 * s .w)
-  unfolding full
-  full-freeSlot j = go (full s j) refl (eq? (freeSlot s j) (4 * s .w))
-    where
-      -- one free slot leaves fewer than 4W places
-      gap : freeSlot s j < 4 * s .w → length (from j (taken s)) < 4 * s .w
-      gap h =
-          omega (
-            arith,
-            counts-all j (4 * s .w) (taken s) (λ p m. f .held p m .slot),
-            sum-gap 0 (4 * s .w) (λ k. count j k (taken s)) (freeSlot s j) (omega arith) (omega arith) (freeSlot-count s j h) (f .once j),
-          )
-
-      go : (t : Bool) → full s j ≡ t → {u : Bool} → Eq? (freeSlot s j) (4 * s .w) u → t ≡ u
-      go true e (same x) = refl
-      go true e (other x) = absurd (omega (arith, leb-true (4 * s .w) (length (from j (taken s))) e, gap (omega (arith, freeSlot-le s j))))
-      go false e (same x) = absurd (omega (arith, freeSlot-lt s j e))
-      go false e (other x) = refl

@@ -7,7 +7,7 @@ use Prim.Native.Nat.{ℕ, zero, suc, _+_, _≤_, _<_}
 use native.Mathlib.Omega.{arith}
 use lib.Dec.{eqb}
 use Rattle.rules.specs.State.{Place, State, minAL, minPAL, from}
-use Rattle.rules.specs.Steps.{withoutOldest, preacked, preackWhile, preackOf, preackTo, moved, confirmWhile, confirm}
+use Rattle.rules.specs.Steps.{withoutOldest, withLists, preacked, preackWhile, preackOf, preackTo, moved, confirmWhile, confirm}
 use Rattle.rules.proofs.MapsLaws.{Lt?, lt, ge, lt?, Eq?, same, other, eq?}
 
 -- ---- the messages of one sender
@@ -153,3 +153,17 @@ module _ (P : State → Type 0) (step : (s : State) (p : Place) (ps : List Place
   pub confirm-all : (s : State) → P s → P (confirm s)
   unfolding confirm
   confirm-all s h = confirmWhile-all (s .ordered) s refl h
+
+-- ---- settling
+
+-- it changes PAL and the lists alone
+pub settles-lists : (m : ℕ) (s : State)
+    → let t = confirm (preackTo m s) in
+    t ≡ withLists s (t .pal) (t .waiting) (t .ordered) (t .confirmed)
+unfolding preacked moved
+settles-lists m s =
+    confirm-all But (λ t p ps h r. ap (λ (u : State). moved u p) h) (preackTo m s)
+    (preackTo-all But (λ j t p ps h r. ap (λ (u : State). preacked u p) h) m s refl .0)
+  where
+    But : State → Type 0
+    But t = t ≡ withLists s (t .pal) (t .waiting) (t .ordered) (t .confirmed)

@@ -56,20 +56,6 @@ sum-once a (suc m) x h b = go (eq? a x) (λ y. sum-once (suc a) m x y (omega ari
     go (same e) ih = omega (arith, sum-past (suc a) m x (omega arith))
     go (other d) ih = omega (arith, ih (omega arith))
 
--- each of them is at most 1, and that of x is 0
-pub sum-gap : (a m : ℕ) (f : ℕ → ℕ) (x : ℕ) → a ≤ x → x < a + m → f x ≡ 0 → ((k : ℕ) → f k ≤ 1) → sum a m f < m
-sum-gap a m f x low high none h =
-    omega (
-      arith,
-      sum-plus a m f (λ k. bit (eqb k x)),
-      sum-once a m x low high,
-      sum-most a m (λ k. f k + bit (eqb k x)) 1 (λ k b c. go k (eq? k x)),
-    )
-  where
-    go : (k : ℕ) → {t : Bool} → Eq? k x t → f k + bit t ≤ 1
-    go k (same e) = rw e (omega arith)
-    go k (other d) = omega (arith, h k)
-
 -- ---- by rows or by columns
 
 pub sum-tally : (a m : ℕ) (f : ℕ → Place → ℕ) (l : List Place) → sum a m (λ k. tally (f k) l) ≡ tally (λ p. sum a m (λ k. f k p)) l

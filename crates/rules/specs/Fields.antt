@@ -1,7 +1,7 @@
 -- House fields (01, "Frames"): one byte tag, two bytes length, content; and the table of the ten tags.
 use mathlib.Core.Bool.{Bool, cond, _&&_}
 use mathlib.Core.List.{List, [], _∷_, _++_}
-use Prim.Native.Nat.{ℕ, suc, _+_, _-_, _/_, _%_}
+use Prim.Native.Nat.{ℕ, zero, suc, _+_, _/_, _%_}
 use lib.Dec.{eqb, leb}
 use lib.ListN.{length, getD, take, drop}
 use Rattle.rules.specs.Maps.{among}
@@ -45,12 +45,14 @@ table =
 
 -- Reading and writing go by any table rs, so that an edition is a table.
 
--- the line of tag t, the first being 1; past the table, a line of no kind
+-- a line of no kind
 abbrev pub noRow : Row
 noRow = row 1 0 0 []
 
+-- the line of tag t, the first being 1; of no kind for tag 0 and past the table
 unfoldable pub rowOf : List Row → ℕ → Row
-rowOf rs t = getD rs (t - 1) noRow
+rowOf rs zero = noRow
+rowOf rs (suc i) = getD rs i noRow
 
 -- the tags of kind k, in rising order: from tag t on, in the lines rs
 abbrev pub tagsFrom : ℕ → List Row → ℕ → List ℕ

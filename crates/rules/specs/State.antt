@@ -4,7 +4,7 @@ use mathlib.Core.List.{List, [], _∷_, _++_}
 use Prim.Native.Nat.{ℕ, _-_, _*_}
 use lib.Dec.{eqb}
 use lib.ListN.{length}
-use Rattle.rules.specs.Maps.{at, least, units}
+use Rattle.rules.specs.Maps.{least, units}
 
 -- A taken place, with the message in it: each sender has 4W places, `slot` counts them from 0.
 pub record Place : Type 0 where

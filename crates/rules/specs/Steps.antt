@@ -1,7 +1,7 @@
 -- The steps of a unit (01, "Steps").
 use mathlib.Core.Bool.{Bool, true, cond, _&&_}
 use mathlib.Core.List.{List, [], _∷_, _++_, tail, map}
-use Prim.Native.Nat.{ℕ, zero, suc, _+_, _-_, _*_, _/_, min, max}
+use Prim.Native.Nat.{ℕ, zero, suc, _+_, _*_, _/_, min, max}
 use lib.Dec.{eqb, leb, ltb}
 use Rattle.rules.specs.Maps.{among, upd, column, at, listed, least, every}
 use Rattle.rules.specs.Message.{Message, Request, message, encode}

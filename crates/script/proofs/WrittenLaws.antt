@@ -5,8 +5,8 @@ use Prim.Native.Nat.{ℕ, suc, _+_, _-_, _/_, _%_, _<_, _≤_}
 use native.Mathlib.Nat.{add-zero, zero-add}
 use native.Mathlib.Numerals.{add-one}
 use native.Mathlib.Omega.{arith}
-use lib.ListN.{length, getD, take, drop, set, length-append, length-set, drop-of-length-le}
-use lib.Seq.{sets, length-sets, sets-eq, set-comm, drop-cons, append-snoc, take-append-seam}
+use lib.ListN.{length, getD, drop, set, length-append, length-set, drop-of-length-le}
+use lib.Seq.{sets, length-sets, sets-eq, set-comm, drop-cons, append-snoc}
 use borrow.Author.Tests.{le-leb, lt-leb}
 use Rattle.rules.specs.Message.{last}
 use Rattle.rules.specs.Calls.{written}
@@ -79,11 +79,6 @@ put-wrote out text h p =
 
 pub short-wrote : (out text : List ℕ) → length out < length text → Wrote out text 0 out
 short-wrote out text h = record { count = rw (lt-leb (length text) (length out) h); bytes = rw (lt-leb (length text) (length out) h) }
-
--- where there was room, the bytes written are the text
-pub wrote-text : {out text after : List ℕ} {r : ℕ} → length text ≤ length out → Wrote out text r after → take r after ≡ text
-wrote-text {out} {text} h w =
-    rw (w .count, w .bytes, le-leb (length text) (length out) h) (take-append-seam text (drop (length text) out))
 
 -- ---- a text copied up to its i-th byte
 

@@ -6,12 +6,9 @@ use Rattle.rules.specs.Fields.{table, rowOf}
 use Rattle.frame.proofs.table.row_of.Statement.{statement}
 use Rattle.frame.proofs.table.row_of.Tie as tie
 
-array-copy-out-result : tie.Need-array-copy-out-result
-array-copy-out-result c = search needs
-
 returns : tie.Need-returns
-unfolding table rowOf
-returns c = rw (c .before .if1 .taken)
+unfolding rowOf
+returns c = rw (c .if1 .taken)
 
 returns-2 : tie.Need-returns-2
 returns-2 c = row-past _ (c .if2 .taken)
@@ -25,8 +22,8 @@ cast-result c = search needs
 mul-result : tie.Need-mul-result
 mul-result c = search needs
 
-array-copy-out-result-2 : tie.Need-array-copy-out-result-2
-array-copy-out-result-2 c = search needs
+array-copy-out-result : tie.Need-array-copy-out-result
+array-copy-out-result c = search needs
 
 returns-3 : tie.Need-returns-3
 unfolding table
@@ -36,11 +33,10 @@ pub row-of-spec : {M : Type 1} → statement M
 row-of-spec =
     tie.close
     (tie.spec
-    array-copy-out-result
     returns
     returns-2
     sub-result
     cast-result
     mul-result
-    array-copy-out-result-2
+    array-copy-out-result
     returns-3)

@@ -7,12 +7,12 @@ use native.Mathlib.Omega.{arith}
 use borrow.Author.Tests.{leb-true}
 use Rattle.lists.specs.Order.{senderOf}
 use Rattle.rules.proofs.MapsLaws.{and-left}
-use Rattle.state.specs.declared.Core.{Core}
 use Rattle.state.specs.Soundness.{placeOf}
 
-pub place-sender : (c : Core) (acks : List ℕ) (p : ℕ) → placeOf c acks p ≡ true → senderOf p ≤ c .n
-unfolding placeOf
-place-sender c acks p h = leb-true (senderOf p) (c .n) (search (and-left))
+module _ (n w : ℕ) (seqs lens acks : List ℕ) where
+  pub place-sender : (p : ℕ) → placeOf n w seqs lens acks p ≡ true → senderOf p ≤ n
+  unfolding placeOf
+  place-sender p h = leb-true (senderOf p) n (search (and-left))
 
-pub place-room : (c : Core) (acks : List ℕ) → c .n ≤ 8 → (p : ℕ) → placeOf c acks p ≡ true → p < 128
-place-room c acks most p h = omega (arith, place-sender c acks p h)
+  pub place-room : n ≤ 8 → (p : ℕ) → placeOf n w seqs lens acks p ≡ true → p < 128
+  place-room most p h = omega (arith, place-sender p h)

@@ -50,10 +50,13 @@ module _ (c : Core) (acks : List ℕ) where
   pub sound-whole : length (c .order .list) ≡ 128 → soundOf c acks ≡ true → Whole (c .n) (c .order)
   unfolding soundOf placesOf
   sound-whole long h =
-      let fit : all (placeOf c acks) (takens (c .order)) ≡ true = search (and-left, and-right) in
+      let fit : all fits (takens (c .order)) ≡ true = search (and-left, and-right) in
       record {
         long = long;
         room = sound-room h;
         senders = λ i x.
-            place-sender c acks (entry (c .order) i) (every-at 0 (total (c .order)) (λ q. placeOf c acks (entry (c .order) q)) (sym (all-every (placeOf c acks) 0 (total (c .order)) (entry (c .order))) ∙ fit) i (omega arith) (omega arith));
+            place-sender (c .n) (c .w) (c .seqs) (c .lens) acks (entry (c .order) i) (every-at 0 (total (c .order)) (λ q. fits (entry (c .order) q)) (sym (all-every fits 0 (total (c .order)) (entry (c .order))) ∙ fit) i (omega arith) (omega arith));
       }
+    where
+      fits : ℕ → Bool
+      fits = placeOf (c .n) (c .w) (c .seqs) (c .lens) acks

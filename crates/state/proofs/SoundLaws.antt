@@ -49,7 +49,7 @@ module _ (c : Core) (acks bytes frames : List ℕ) where
       every-units (c .n) (λ k. every 1 (c .n) (λ j. ltb 0 (grid (c .n) t k j))) (λ k. noneZero (c .n) (at (rowOf t k)))
       (λ k a b. ap (λ (f : ℕ → ℕ). every 1 (c .n) (λ j. ltb 0 (f j))) (grid-row (c .n) t k a b) ∙ one (rowOf t k))
 
-  nexts : nextsFit s ≡ nextsOf c
+  nexts : nextsFit s ≡ nextsOf (c .n) (c .seq) (c .req) (c .heard) (c .al) (c .order .pal)
   unfolding nextsFit nextsOf look
   nexts =
       ap (λ (x : Bool). ltb 0 (c .seq) && x && every 1 (c .n) (λ k. every 1 (c .n) (λ j. al k j && pal k j))) (every-both 1 (c .n) req heard)
@@ -81,7 +81,10 @@ module _ (c : Core) (acks bytes frames : List ℕ) where
 
   -- ---- the places
 
-  place : (p : ℕ) → placeFits s (placeAt c acks bytes p) ≡ placeOf c acks p
+  abbrev fits : ℕ → Bool
+  fits = placeOf (c .n) (c .w) (c .seqs) (c .lens) acks
+
+  place : (p : ℕ) → placeFits s (placeAt c acks bytes p) ≡ fits p
   unfolding placeFits placeOf look placeAt between
   place p =
       rw (
@@ -92,9 +95,9 @@ module _ (c : Core) (acks bytes frames : List ℕ) where
         sent-range (getD (c .seqs) p 0),
       )
 
-  fine : (l : List ℕ) → all (placeOf c acks) l ≡ true → All (λ p. senderOf p ≤ c .n) l
+  fine : (l : List ℕ) → all fits l ≡ true → All (λ p. senderOf p ≤ c .n) l
   fine [] h = tt
-  fine (p ∷ l) h = (place-sender c acks p (and-left (placeOf c acks p) (all (placeOf c acks) l) h), fine l (and-right (placeOf c acks p) (all (placeOf c acks) l) h))
+  fine (p ∷ l) h = (place-sender (c .n) (c .w) (c .seqs) (c .lens) acks p (and-left (fits p) (all fits l) h), fine l (and-right (fits p) (all fits l) h))
 
   once-is : (l : List ℕ) → All (λ p. senderOf p ≤ c .n) l → once (map (placeAt c acks bytes) l) ≡ noneTwice l
   once-is [] h = refl
@@ -105,12 +108,12 @@ module _ (c : Core) (acks bytes frames : List ℕ) where
   taken-is : taken s ≡ map (placeAt c acks bytes) (takens (c .order))
   taken-is = taken-shows (placeAt c acks bytes) (c .n) (c .order) s (shows-look c acks bytes frames)
 
-  placesFit : all (placeFits s) (taken s) && once (taken s) ≡ placesOf c acks
+  placesFit : all (placeFits s) (taken s) && once (taken s) ≡ placesOf (c .n) (c .w) (c .seqs) (c .lens) acks (c .order)
   unfolding placesOf
   placesFit =
       ap (λ (l : List Place). all (placeFits s) l && once l) taken-is
       ∙ ap (λ (b : Bool). b && once (map (placeAt c acks bytes) l)) (all-map (placeFits s) (placeAt c acks bytes) l ∙ ap (λ (t : ℕ → Bool). all t l) (fun-ext place))
-      ∙ go (all (placeOf c acks) l) (λ h. once-is l (fine l h))
+      ∙ go (all fits l) (λ h. once-is l (fine l h))
     where
       l : List ℕ
       l = takens (c .order)
@@ -147,7 +150,7 @@ module _ (c : Core) (acks bytes frames : List ℕ) where
             ∙ sym (at-next (c .kept) i)
             ∙ ap (at (c .kept)) (let d : i + 1 ≡ 1 + i = omega arith in d)
 
-    window : windowFits s && keptFit s ≡ windowOf c
+    window : windowFits s && keptFit s ≡ windowOf (ownLow c) (c .w) (c .n) (c .seq) (c .kept)
     unfolding windowFits windowOf look
     window = rw (low, keptFits)
 
@@ -167,7 +170,7 @@ module _ (c : Core) (acks bytes frames : List ℕ) where
       regroup false o w k p u = refl
 
       go : (t : Bool) → (t ≡ true → Ranges (c .me) (c .n) (c .w))
-          → t && nextsOf c && eqb (at (c .req) (c .me)) (c .seq) && windowOf c && placesOf c acks
+          → t && nextsOf (c .n) (c .seq) (c .req) (c .heard) (c .al) (c .order .pal) && eqb (at (c .req) (c .me)) (c .seq) && windowOf (ownLow c) (c .w) (c .n) (c .seq) (c .kept) && placesOf (c .n) (c .w) (c .seqs) (c .lens) acks (c .order)
           ≡ t && nextsFit s && eqb (s .req (s .me)) (s .seq) && windowFits s && all (placeFits s) (taken s) && keptFit s && once (taken s)
       go false h = refl
       go true h =

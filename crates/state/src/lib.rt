@@ -75,14 +75,16 @@ pub fn sound(c: Core, acks: &[u32]) -> bool
     if !soundness::ranges_fit(c.me, c.n, c.w) {
         return false;
     }
-    if !soundness::nexts_fit(c) {
+    if !soundness::nexts_fit(c.n, c.seq, &c.req, &c.heard, &c.al, &c.order.pal) {
         return false;
     }
     if tables::at(&c.req, c.me) != c.seq {
         return false;
     }
-    if !soundness::window_fits(c) {
+    let kept = c.kept;
+    if !soundness::window_fits(own_low(c), c.w, c.n, c.seq, kept) {
         return false;
     }
-    soundness::places_fit(c, acks)
+    let order = c.order;
+    soundness::places_fit(c.n, c.w, &c.seqs, &c.lens, acks, order)
 }

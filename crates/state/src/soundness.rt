@@ -1,7 +1,6 @@
 // The tests that make a unit sound, one for each clause.
-use crate::Core;
-use crate::own_low;
 use lists;
+use lists::Order;
 use tables;
 ghost use mathlib.Core.Path.{_≡_};
 ghost use Prim.Native.Nat.{_≤_};
@@ -30,23 +29,29 @@ pub fn ranges_fit(me: u8, n: u8, w: u8) -> bool
 }
 
 // No number that means "next" is 0.
-pub fn nexts_fit(c: Core) -> bool
-    ensures { λ r. ⌜ r ≡ nextsOf c ⌝ }
+pub fn nexts_fit<'a>(
+    n: u8,
+    seq: u32,
+    req: &'a [u32],
+    heard: &'a [u32],
+    al: &'a [u32],
+    pal: &'a [u32],
+) -> bool
+    ensures { λ r. ⌜ r ≡ nextsOf n seq (now (req .entry)) (now (heard .entry)) (now (al .entry)) (now (pal .entry)) ⌝ }
 {
-    if c.seq == 0 {
+    if seq == 0 {
         return false;
     }
-    if !tables::none_zero(&c.req, c.n) {
+    if !tables::none_zero(req, n) {
         return false;
     }
-    if !tables::none_zero(&c.heard, c.n) {
+    if !tables::none_zero(heard, n) {
         return false;
     }
-    if !tables::table_none_zero(&c.al, c.n) {
+    if !tables::table_none_zero(al, n) {
         return false;
     }
-    let o = c.order;
-    tables::table_none_zero(&o.pal, c.n)
+    tables::table_none_zero(pal, n)
 }
 
 // The first m kept frames are as long as frames of data can be.
@@ -66,49 +71,53 @@ pub fn kept_fit(kept: [u8; 4], n: u8, m: u32) -> bool
 }
 
 // SEQ is from minAL to minAL + W, a sum that may pass 32 bits, and the frames kept from minAL on are of fit lengths.
-pub fn window_fits(c: Core) -> bool
-    ensures { λ r. ⌜ r ≡ windowOf c ⌝ }
+pub fn window_fits(low: u32, w: u8, n: u8, seq: u32, kept: [u8; 4]) -> bool
+    ensures { λ r. ⌜ r ≡ windowOf low w n seq kept ⌝ }
 {
-    let low = own_low(c);
-    if !between(low as u64, (low as u64) + (c.w as u64), c.seq as u64) {
+    if !between(low as u64, (low as u64) + (w as u64), seq as u64) {
         return false;
     }
-    let kept = c.kept;
-    kept_fit(kept, c.n, c.seq - low)
+    kept_fit(kept, n, seq - low)
 }
 
 // Place p is one of its sender's, and its message keeps the frame limits.
-pub fn place_fits(c: Core, acks: &[u32], p: u8) -> bool
-    ensures { λ r. ⌜ r ≡ placeOf c (now (acks .entry)) p ⌝ }
+pub fn place_fits<'a>(n: u8, w: u8, seqs: &'a [u32], lens: &'a [u8], acks: &'a [u32], p: u8) -> bool
+    ensures { λ r. ⌜ r ≡ placeOf n w (now (seqs .entry)) (now (lens .entry)) (now (acks .entry)) p ⌝ }
 {
-    if c.n < p / 16 + 1 {
+    if n < p / 16 + 1 {
         return false;
     }
-    if 4 * (c.w as usize) <= (p % 16) as usize {
+    if 4 * (w as usize) <= (p % 16) as usize {
         return false;
     }
     let i = p as usize;
-    if !between(1, 4294967294, tables::get(&c.seqs, i) as u64) {
+    if !between(1, 4294967294, tables::get(seqs, i) as u64) {
         return false;
     }
-    if !tables::none_zero(tables::tail(acks, 8 * i), c.n) {
+    if !tables::none_zero(tables::tail(acks, 8 * i), n) {
         return false;
     }
-    tables::byte(&c.lens, i) <= 48
+    tables::byte(lens, i) <= 48
 }
 
 // Each taken place fits, and none stands twice in the lists.
-pub fn places_fit(c: Core, acks: &[u32]) -> bool
-    requires { ⌜ c .n ≤ 8 ⌝ }
-    ensures { λ r. ⌜ r ≡ placesOf c (now (acks .entry)) ⌝ }
+pub fn places_fit<'a>(
+    n: u8,
+    w: u8,
+    seqs: &'a [u32],
+    lens: &'a [u8],
+    acks: &'a [u32],
+    o: Order,
+) -> bool
+    requires { ⌜ n ≤ 8 ⌝ }
+    ensures { λ r. ⌜ r ≡ placesOf n w (now (seqs .entry)) (now (lens .entry)) (now (acks .entry)) o ⌝ }
 {
-    let o = c.order;
     let end = lists::taken(o);
     let mut marks = [false; 128];
     let mut q: usize = 0;
     while q < end {
         let p = tables::byte(&o.list, q);
-        if !place_fits(c, acks, p) {
+        if !place_fits(n, w, seqs, lens, acks, p) {
             return false;
         }
         if marks[p as usize] {

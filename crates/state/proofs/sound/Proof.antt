@@ -12,9 +12,7 @@ ranges-fit-requires c κs = search needs
 
 returns : tie.Need-returns
 unfolding soundOf
-returns c =
-    let ranges = c .before .ranges-fit in
-    rw (← ranges .ensures, not-true (ranges .result) (c .if1 .taken))
+returns c = rw (← c .before .ranges-fit .ensures, not-true (c .before .ranges-fit .result) (c .if1 .taken))
 
 nexts-fit-requires : tie.Need-nexts-fit-requires
 nexts-fit-requires c κs = search needs
@@ -22,9 +20,9 @@ nexts-fit-requires c κs = search needs
 returns-2 : tie.Need-returns-2
 unfolding soundOf
 returns-2 c =
-    let ranges = c .before .before .before .ranges-fit in
-    let nexts = c .before .nexts-fit in
-    rw (← ranges .ensures, not-false (ranges .result) (c .before .before .if1 .left), ← nexts .ensures, not-true (nexts .result) (c .if2 .taken))
+    let nexts = c .before in
+    let ranges = nexts .before .before .before .before .before .before .before .before .before .before .before in
+    rw (← ranges .ranges-fit .ensures, not-false (ranges .ranges-fit .result) (nexts .before .before .before .before .before .before .before .before .before .before .if1 .left), ← nexts .nexts-fit .ensures, not-true (nexts .nexts-fit .result) (c .if2 .taken))
 
 at-requires : tie.Need-at-requires
 at-requires c κs = search needs
@@ -32,9 +30,13 @@ at-requires c κs = search needs
 returns-3 : tie.Need-returns-3
 unfolding soundOf
 returns-3 c =
-    let ranges = c .before .before .before .before .before .before .before .before .ranges-fit in
-    let nexts = c .before .before .before .before .before .before .nexts-fit in
-    rw (← ranges .ensures, not-false (ranges .result) (c .before .before .before .before .before .before .before .if1 .left), ← nexts .ensures, not-false (nexts .result) (c .before .before .before .before .before .if2 .left), ← c .before .at .ensures, ne-eqb _ _ (c .if3 .taken))
+    let own = c .before in
+    let nexts = own .before .before .before .before .before in
+    let ranges = nexts .before .before .before .before .before .before .before .before .before .before .before in
+    rw (← ranges .ranges-fit .ensures, not-false (ranges .ranges-fit .result) (nexts .before .before .before .before .before .before .before .before .before .before .if1 .left), ← nexts .nexts-fit .ensures, not-false (nexts .nexts-fit .result) (own .before .before .before .before .if2 .left), ← own .at .ensures, ne-eqb _ _ (c .if3 .taken))
+
+own-low-requires : tie.Need-own-low-requires
+own-low-requires c κs = search needs
 
 window-fits-requires : tie.Need-window-fits-requires
 window-fits-requires c κs = search needs
@@ -42,23 +44,25 @@ window-fits-requires c κs = search needs
 returns-4 : tie.Need-returns-4
 unfolding soundOf
 returns-4 c =
-    let ranges = c .before .before .before .before .before .before .before .before .before .before .ranges-fit in
-    let nexts = c .before .before .before .before .before .before .before .before .nexts-fit in
-    let window = c .before .window-fits in
-    rw (← ranges .ensures, not-false (ranges .result) (c .before .before .before .before .before .before .before .before .before .if1 .left), ← nexts .ensures, not-false (nexts .result) (c .before .before .before .before .before .before .before .if2 .left), ← c .before .before .before .at .ensures, eq-eqb _ _ (c .before .before .if3 .left), ← window .ensures, not-true (window .result) (c .if4 .taken))
+    let window = c .before in
+    let own = window .before .before .before .before in
+    let nexts = own .before .before .before .before .before in
+    let ranges = nexts .before .before .before .before .before .before .before .before .before .before .before in
+    rw (← ranges .ranges-fit .ensures, not-false (ranges .ranges-fit .result) (nexts .before .before .before .before .before .before .before .before .before .before .if1 .left), ← nexts .nexts-fit .ensures, not-false (nexts .nexts-fit .result) (own .before .before .before .before .if2 .left), ← own .at .ensures, eq-eqb _ _ (window .before .before .before .if3 .left), ← window .before .own-low .ensures, ← window .window-fits .ensures, not-true (window .window-fits .result) (c .if4 .taken))
 
 places-fit-requires : tie.Need-places-fit-requires
 places-fit-requires c κs =
-    let ranges = c .before .before .before .before .before .before .before .before .before .before .ranges-fit in
-    rangesFit-facts _ _ _ (sym (ranges .ensures) ∙ not-false (ranges .result) (c .before .before .before .before .before .before .before .before .before .if1 .left)) .n-high
+    let nexts = c .before .before .before .before .before .before .before .before .before .before .before .before .before .before .before .before in
+    rangesFit-facts _ _ _ (sym (nexts .before .before .before .before .before .before .before .before .before .before .before .ranges-fit .ensures) ∙ not-false _ (nexts .before .before .before .before .before .before .before .before .before .before .if1 .left)) .n-high
 
 returns-5 : tie.Need-returns-5
 unfolding soundOf
 returns-5 c =
-    let ranges = c .before .before .before .before .before .before .before .before .before .before .before .ranges-fit in
-    let nexts = c .before .before .before .before .before .before .before .before .before .nexts-fit in
-    let window = c .before .before .window-fits in
-    rw (← ranges .ensures, not-false (ranges .result) (c .before .before .before .before .before .before .before .before .before .before .if1 .left), ← nexts .ensures, not-false (nexts .result) (c .before .before .before .before .before .before .before .before .if2 .left), ← c .before .before .before .before .at .ensures, eq-eqb _ _ (c .before .before .before .if3 .left), ← window .ensures, not-false (window .result) (c .before .if4 .left)) (c .places-fit .ensures)
+    let window = c .before .before .before .before .before .before .before .before in
+    let own = window .before .before .before .before in
+    let nexts = own .before .before .before .before .before in
+    let ranges = nexts .before .before .before .before .before .before .before .before .before .before .before in
+    rw (← ranges .ranges-fit .ensures, not-false (ranges .ranges-fit .result) (nexts .before .before .before .before .before .before .before .before .before .before .if1 .left), ← nexts .nexts-fit .ensures, not-false (nexts .nexts-fit .result) (own .before .before .before .before .if2 .left), ← own .at .ensures, eq-eqb _ _ (window .before .before .before .if3 .left), ← window .before .own-low .ensures, ← window .window-fits .ensures, not-false (window .window-fits .result) (c .before .before .before .before .before .before .before .if4 .left)) (c .places-fit .ensures)
 
 pub sound-spec : {M : Type 1} → statement M
 sound-spec =
@@ -70,6 +74,7 @@ sound-spec =
     returns-2
     at-requires
     returns-3
+    own-low-requires
     window-fits-requires
     returns-4
     places-fit-requires

@@ -14,25 +14,22 @@ add-if1 c = search needs
 returns : tie.Need-returns
 unfolding placeOf
 returns c =
-    let s = c .before .before .args in
-    let sender : s .t1 .n < senderOf (s .p) = omega arith in
+    let s = c .before .before .before .before .args in
+    let sender : s .n < senderOf (s .p) = omega arith in
     rw (lt-leb _ _ sender)
-
-cast-if2 : tie.Need-cast-if2
-cast-if2 c = search needs
 
 mul-if2 : tie.Need-mul-if2
 mul-if2 c = search needs
 
-cast-if2-2 : tie.Need-cast-if2-2
-cast-if2-2 c = search needs
+cast-if2 : tie.Need-cast-if2
+cast-if2 c = search needs
 
 returns-2 : tie.Need-returns-2
 unfolding placeOf
 returns-2 c =
-    let s = c .before .before .before .args in
-    let sender : senderOf (s .p) ≤ s .t1 .n = omega arith in
-    let slot : 4 * s .t1 .w ≤ slotOf (s .p) = omega arith in
+    let s = c .before .before .before .before .before .args in
+    let sender : senderOf (s .p) ≤ s .n = omega arith in
+    let slot : 4 * s .w ≤ slotOf (s .p) = omega arith in
     rw (le-leb _ _ sender, le-ltb _ _ slot)
 
 get-requires : tie.Need-get-requires
@@ -47,11 +44,11 @@ between-requires c κs = search needs
 returns-3 : tie.Need-returns-3
 unfolding placeOf
 returns-3 c =
-    let s = c .before .before .before .before .before .before .before .before .before .args in
-    let sender : senderOf (s .p) ≤ s .t1 .n = omega arith in
-    let slot : slotOf (s .p) < 4 * s .t1 .w = omega arith in
-    let seq = c .before .between in
-    rw (le-leb _ _ sender, lt-ltb _ _ slot, ← c .before .before .get .ensures, ← seq .ensures, not-true (seq .result) (c .if3 .taken))
+    let seq = c .before in
+    let s = seq .before .before .before .before .before .before .before .args in
+    let sender : senderOf (s .p) ≤ s .n = omega arith in
+    let slot : slotOf (s .p) < 4 * s .w = omega arith in
+    rw (le-leb _ _ sender, lt-ltb _ _ slot, ← seq .before .get .ensures, ← seq .between .ensures, not-true (seq .between .result) (c .if3 .taken))
 
 mul-tail : tie.Need-mul-tail
 mul-tail c = search needs
@@ -65,12 +62,12 @@ none-zero-requires c κs = search needs
 returns-4 : tie.Need-returns-4
 unfolding placeOf
 returns-4 c =
-    let s = c .before .before .before .before .before .before .before .before .before .before .before .before .args in
-    let sender : senderOf (s .p) ≤ s .t1 .n = omega (arith, c .before .before .before .before .before .before .before .before .before .before .if1 .left) in
-    let slot : slotOf (s .p) < 4 * s .t1 .w = omega (arith, c .before .before .before .before .before .before .before .before .before .if2 .left) in
-    let seq = c .before .before .before .before .between in
-    let acks = c .before .none-zero in
-    rw (le-leb _ _ sender, lt-ltb _ _ slot, ← c .before .before .before .before .before .get .ensures, ← seq .ensures, not-false (seq .result) (c .before .before .before .if3 .left), ← c .before .before .tail .ensures, ← acks .ensures, not-true (acks .result) (c .if4 .taken))
+    let acks = c .before in
+    let seq = acks .before .before .before in
+    let s = seq .before .before .before .before .before .before .before .args in
+    let sender : senderOf (s .p) ≤ s .n = omega arith in
+    let slot : slotOf (s .p) < 4 * s .w = omega arith in
+    rw (le-leb _ _ sender, lt-ltb _ _ slot, ← seq .before .get .ensures, ← seq .between .ensures, not-false (seq .between .result) (acks .before .before .if3 .left), ← acks .before .tail .ensures, ← acks .none-zero .ensures, not-true (acks .none-zero .result) (c .if4 .taken))
 
 byte-requires : tie.Need-byte-requires
 byte-requires c κs = search needs
@@ -78,12 +75,12 @@ byte-requires c κs = search needs
 returns-5 : tie.Need-returns-5
 unfolding placeOf
 returns-5 c =
-    let s = c .before .before .before .before .before .before .before .before .before .before .before .before .before .before .before .before .args in
-    let sender : senderOf (s .p) ≤ s .t1 .n = omega (arith, c .before .before .before .before .before .before .before .before .before .before .before .before .before .before .if1 .left) in
-    let slot : slotOf (s .p) < 4 * s .t1 .w = omega (arith, c .before .before .before .before .before .before .before .before .before .before .before .before .before .if2 .left) in
-    let seq = c .before .before .before .before .before .before .before .before .between in
-    let acks = c .before .before .before .before .before .none-zero in
-    rw (le-leb _ _ sender, lt-ltb _ _ slot, ← c .before .before .before .before .before .before .before .before .before .get .ensures, ← seq .ensures, not-false (seq .result) (c .before .before .before .before .before .before .before .if3 .left), ← c .before .before .before .before .before .before .tail .ensures, ← acks .ensures, not-false (acks .result) (c .before .before .before .before .if4 .left), ← c .byte .ensures)
+    let acks = c .before .before in
+    let seq = acks .before .before .before in
+    let s = seq .before .before .before .before .before .before .before .args in
+    let sender : senderOf (s .p) ≤ s .n = omega (arith, seq .before .before .before .if1 .left) in
+    let slot : slotOf (s .p) < 4 * s .w = omega (arith, seq .before .before .if2 .left) in
+    rw (le-leb _ _ sender, lt-ltb _ _ slot, ← seq .before .get .ensures, ← seq .between .ensures, not-false (seq .between .result) (acks .before .before .if3 .left), ← acks .before .tail .ensures, ← acks .none-zero .ensures, not-false (acks .none-zero .result) (c .before .if4 .left), ← c .byte .ensures)
 
 pub place-fits-spec : {M : Type 1} → statement M
 place-fits-spec =
@@ -91,9 +88,8 @@ place-fits-spec =
     (tie.spec
     add-if1
     returns
-    cast-if2
     mul-if2
-    cast-if2-2
+    cast-if2
     returns-2
     get-requires
     cast-between

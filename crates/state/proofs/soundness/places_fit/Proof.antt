@@ -1,5 +1,5 @@
 -- After q turns the places before index q fit and are marked, and the pass over the others decides.
-use mathlib.Core.Bool.{true, false}
+use mathlib.Core.Bool.{Bool, true, false}
 use mathlib.Core.Path.{_≡_, sym, ap, _∙_}
 use Prim.Native.Nat.{ℕ, _+_, _-_, _≤_}
 use native.Mathlib.Omega.{arith}
@@ -15,11 +15,11 @@ use Rattle.state.proofs.soundness.places_fit.Statement.{statement}
 use Rattle.state.proofs.soundness.places_fit.Tie as tie
 
 abbrev Inv-loop : tie.InvT-loop
-Inv-loop c acks o end marks₀ q₀ marks q =
-    ((q ≤ end) × (end ≡ total (c .order))) × (passes (placeOf c acks) marks (listed q (end - q) (entry (c .order))) ≡ placesOf c acks)
+Inv-loop n w seqs lens acks o end marks₀ q₀ marks q =
+    ((q ≤ end) × (end ≡ total o)) × (passes (placeOf n w seqs lens acks) marks (listed q (end - q) (entry o)) ≡ placesOf n w seqs lens acks o)
 
 abbrev μ-loop : tie.MeasureT-loop
-μ-loop c acks o end marks₀ q₀ marks q = end - q
+μ-loop n w seqs lens acks o end marks₀ q₀ marks q = end - q
 
 taken-requires : tie.Need-taken-requires Inv-loop μ-loop
 taken-requires c κs = search needs
@@ -27,11 +27,11 @@ taken-requires c κs = search needs
 loop-holds : tie.Need-loop-holds Inv-loop μ-loop
 unfolding placesOf
 loop-holds c =
-    let s = c .before .before .before .args in
-    let o = s .c .order in (
+    let s = c .before .before .before .before .args in
+    let fits : ℕ → Bool = placeOf (s .n) (s .w) (s .seqs .now) (s .lens .now) (s .acks .now) in (
       search needs,
-      ap (λ (i : ℕ). passes (placeOf (s .c) (s .acks .now)) (replicate 128 false) (listed 0 i (entry o))) (let e : c .taken .result - 0 ≡ total o = omega arith in e)
-          ∙ passes-blank (placeOf (s .c) (s .acks .now)) (place-room (s .c) (s .acks .now) (c .before .before .before .pre)) (takens o),
+      ap (λ (i : ℕ). passes fits (replicate 128 false) (listed 0 i (entry (s .t6)))) (let e : c .taken .result - 0 ≡ total (s .t6) = omega arith in e)
+          ∙ passes-blank fits (place-room (s .n) (s .w) (s .seqs .now) (s .lens .now) (s .acks .now) (c .before .before .before .before .pre)) (takens (s .t6)),
     )
 
 byte-requires : tie.Need-byte-requires Inv-loop μ-loop
@@ -43,33 +43,35 @@ place-fits-requires c κs = search needs
 returns : tie.Need-returns Inv-loop μ-loop
 returns c =
     let q = c .before .before .before .before .before .before .before in
-    let s = q .before .before .before .before .args in
-    let unfit = ap (placeOf (s .c) (s .acks .now)) (sym (c .before .before .byte .ensures)) ∙ sym (c .before .place-fits .ensures) ∙ not-true _ (c .if1 .taken) in
-    passes-unfit (placeOf (s .c) (s .acks .now)) (entry (s .c .order)) (q .loop .marks) (q .before .taken .result) (q .loop .q) (c .before .before .before .before .before .before .loop-test .taken) unfit (q .loop .inv .1)
+    let s = q .before .before .before .before .before .args in
+    let fits : ℕ → Bool = placeOf (s .n) (s .w) (s .seqs .now) (s .lens .now) (s .acks .now) in
+    let unfit = ap fits (sym (c .before .before .byte .ensures)) ∙ sym (c .before .place-fits .ensures) ∙ not-true _ (c .if1 .taken) in
+    passes-unfit fits (entry (s .t6)) (q .loop .marks) (q .before .taken .result) (q .loop .q) (c .before .before .before .before .before .before .loop-test .taken) unfit (q .loop .inv .1)
 
 cast-if2 : tie.Need-cast-if2 Inv-loop μ-loop
 cast-if2 c = search needs
 
 array-read-if2 : tie.Need-array-read-if2 Inv-loop μ-loop
 array-read-if2 c =
-    let s = c .before .before .before .before .before .before .before .before .before .before .before .args in
-    omega (arith, place-room (s .c) (s .acks .now) (c .before .before .before .before .before .before .before .before .before .before .before .pre) (c .before .before .byte .result) (sym (c .before .place-fits .ensures) ∙ not-false _ (c .if1 .left)))
+    let s = c .before .before .before .before .before .before .before .before .before .before .before .before .args in
+    omega (arith, place-room (s .n) (s .w) (s .seqs .now) (s .lens .now) (s .acks .now) (c .before .before .before .before .before .before .before .before .before .before .before .before .pre) (c .before .before .byte .result) (sym (c .before .place-fits .ensures) ∙ not-false _ (c .if1 .left)))
 
 returns-2 : tie.Need-returns-2 Inv-loop μ-loop
 returns-2 c =
     let q = c .before .before .before .before .before .before .before .before in
-    let s = q .before .before .before .before .args in
-    let fit = ap (placeOf (s .c) (s .acks .now)) (sym (c .before .before .before .byte .ensures)) ∙ sym (c .before .before .place-fits .ensures) ∙ not-false _ (c .before .if1 .left) in
+    let s = q .before .before .before .before .before .args in
+    let fits : ℕ → Bool = placeOf (s .n) (s .w) (s .seqs .now) (s .lens .now) (s .acks .now) in
+    let fit = ap fits (sym (c .before .before .before .byte .ensures)) ∙ sym (c .before .before .place-fits .ensures) ∙ not-false _ (c .before .if1 .left) in
     let twice = ap (λ (i : ℕ). getD (q .loop .marks) i false) (sym (c .before .before .before .byte .ensures)) ∙ c .if2 .taken in
-    passes-twice (placeOf (s .c) (s .acks .now)) (entry (s .c .order)) (q .loop .marks) (q .before .taken .result) (q .loop .q) (c .before .before .before .before .before .before .before .loop-test .taken) fit twice (q .loop .inv .1)
+    passes-twice fits (entry (s .t6)) (q .loop .marks) (q .before .taken .result) (q .loop .q) (c .before .before .before .before .before .before .before .loop-test .taken) fit twice (q .loop .inv .1)
 
 cast-marks : tie.Need-cast-marks Inv-loop μ-loop
 cast-marks c = search needs
 
 array-write-marks : tie.Need-array-write-marks Inv-loop μ-loop
 array-write-marks c =
-    let s = c .before .before .before .before .before .before .before .before .before .before .before .before .args in
-    omega (arith, place-room (s .c) (s .acks .now) (c .before .before .before .before .before .before .before .before .before .before .before .before .pre) (c .before .before .before .byte .result) (sym (c .before .before .place-fits .ensures) ∙ not-false _ (c .before .if1 .left)))
+    let s = c .before .before .before .before .before .before .before .before .before .before .before .before .before .args in
+    omega (arith, place-room (s .n) (s .w) (s .seqs .now) (s .lens .now) (s .acks .now) (c .before .before .before .before .before .before .before .before .before .before .before .before .before .pre) (c .before .before .before .byte .result) (sym (c .before .before .place-fits .ensures) ∙ not-false _ (c .before .if1 .left)))
 
 add-q : tie.Need-add-q Inv-loop μ-loop
 add-q c = search needs
@@ -80,19 +82,20 @@ loop-less c = search needs
 loop-again : tie.Need-loop-again Inv-loop μ-loop
 loop-again c =
     let q = c .before .before .before .before .before .before .before .before in
-    let s = q .before .before .before .before .args in
-    let fit = ap (placeOf (s .c) (s .acks .now)) (sym (c .before .before .before .byte .ensures)) ∙ sym (c .before .before .place-fits .ensures) ∙ not-false _ (c .before .if1 .left) in
+    let s = q .before .before .before .before .before .args in
+    let fits : ℕ → Bool = placeOf (s .n) (s .w) (s .seqs .now) (s .lens .now) (s .acks .now) in
+    let fit = ap fits (sym (c .before .before .before .byte .ensures)) ∙ sym (c .before .before .place-fits .ensures) ∙ not-false _ (c .before .if1 .left) in
     let once = ap (λ (i : ℕ). getD (q .loop .marks) i false) (sym (c .before .before .before .byte .ensures)) ∙ c .if2 .left in (
       search needs,
-      ap (λ (i : ℕ). passes (placeOf (s .c) (s .acks .now)) (set (q .loop .marks) i true) (listed (q .loop .q + 1) (q .before .taken .result - (q .loop .q + 1)) (entry (s .c .order)))) (c .before .before .before .byte .ensures)
-          ∙ passes-more (placeOf (s .c) (s .acks .now)) (entry (s .c .order)) (q .loop .marks) (q .before .taken .result) (q .loop .q) (c .before .before .before .before .before .before .before .loop-test .taken) fit once (q .loop .inv .1),
+      ap (λ (i : ℕ). passes fits (set (q .loop .marks) i true) (listed (q .loop .q + 1) (q .before .taken .result - (q .loop .q + 1)) (entry (s .t6)))) (c .before .before .before .byte .ensures)
+          ∙ passes-more fits (entry (s .t6)) (q .loop .marks) (q .before .taken .result) (q .loop .q) (c .before .before .before .before .before .before .before .loop-test .taken) fit once (q .loop .inv .1),
     )
 
 returns-3 : tie.Need-returns-3 Inv-loop μ-loop
 returns-3 c =
     let q = c .before in
-    let s = q .before .before .before .before .args in
-    passes-end (placeOf (s .c) (s .acks .now)) (entry (s .c .order)) (q .loop .marks) (q .before .taken .result) (q .loop .q) (c .loop-test .left) (q .loop .inv .1)
+    let s = q .before .before .before .before .before .args in
+    passes-end (placeOf (s .n) (s .w) (s .seqs .now) (s .lens .now) (s .acks .now)) (entry (s .t6)) (q .loop .marks) (q .before .taken .result) (q .loop .q) (c .loop-test .left) (q .loop .inv .1)
 
 pub places-fit-spec : {M : Type 1} → statement M
 places-fit-spec =

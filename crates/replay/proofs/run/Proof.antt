@@ -1,7 +1,7 @@
 -- `run` meets its contract: after i records it has the units and the replies of i records.
 use borrow.Author.Needs.{needs}
 use native.Mathlib.Omega.{arith}
-use mathlib.Core.Path.{_≡_, refl, ap, _∙_}
+use mathlib.Core.Path.{_≡_, refl, ap}
 use Prim.Native.Nat.{_+_, _-_, _*_, _%_, _≤_}
 use lib.ListN.{length}
 use Rattle.replay.proofs.RunLaws.{After, none-run, one-run, all-run}

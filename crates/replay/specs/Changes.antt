@@ -4,16 +4,18 @@ use mathlib.Core.List.{List}
 use Prim.Native.Nat.{ℕ, _+_, _-_, _*_, _%_}
 use lib.Dec.{eqb}
 use lib.ListN.{getD, set}
+use Rattle.lists.specs.declared.Order.{Order}
 use Rattle.state.specs.declared.Core.{Core}
+use Rattle.state.specs.Changed as state
 use Rattle.unit.specs.declared.Unit.{Unit}
 
 -- the j-th number of row k, in a table of rows of eight
 abbrev pub cell : ℕ → ℕ → ℕ
 cell k j = 8 * (k - 1) + (j - 1)
 
--- the place of the message at position k
-abbrev pub placeAt : Core → ℕ → ℕ
-placeAt c k = getD (c .order .list) k 0
+-- the place at position k
+abbrev pub placeAt : Order → ℕ → ℕ
+placeAt o k = getD (o .list) k 0
 
 -- i, n, W, CID and SEQ
 unfoldable pub withNumber : Core → ℕ → ℕ → Core
@@ -34,7 +36,7 @@ withNumber c what x =
       order = c .order;
     }
 
--- REQ_k, HEARD_k, BUF_k, AL_kj and PAL_kj
+-- REQ_k, HEARD_k, BUF_k and AL_kj
 unfoldable pub withEntry : Core → ℕ → ℕ → ℕ → ℕ → Core
 withEntry c what k j x =
     record {
@@ -50,12 +52,12 @@ withEntry c what k j x =
       kept = c .kept;
       seqs = c .seqs;
       lens = c .lens;
-      order = record { pal = cond (eqb what 5) (set (c .order .pal) (cell k j) x) (c .order .pal); list = c .order .list; confirmed = c .order .confirmed; ordered = c .order .ordered; waiting = c .order .waiting };
+      order = c .order;
     }
 
--- SEQ and data length of the message at position k, and the place of that position
-unfoldable pub withMessage : Core → ℕ → ℕ → ℕ → ℕ → Core
-withMessage c what k j x =
+-- SEQ and data length of the message at position k
+unfoldable pub withMessage : Core → ℕ → ℕ → ℕ → Core
+withMessage c what k x =
     record {
       me = c .me;
       n = c .n;
@@ -67,19 +69,31 @@ withMessage c what k j x =
       buf = c .buf;
       al = c .al;
       kept = c .kept;
-      seqs = cond (eqb what 10) (set (c .seqs) (placeAt c k) x) (c .seqs);
-      lens = cond (eqb what 11) (set (c .lens) (placeAt c k) (x % 256)) (c .lens);
-      order = record { pal = c .order .pal; list = cond (eqb what 13) (set (c .order .list) k (placeAt c j)) (c .order .list); confirmed = c .order .confirmed; ordered = c .order .ordered; waiting = c .order .waiting };
+      seqs = cond (eqb what 10) (set (c .seqs) (placeAt (c .order) k) x) (c .seqs);
+      lens = cond (eqb what 11) (set (c .lens) (placeAt (c .order) k) (x % 256)) (c .lens);
+      order = c .order;
+    }
+
+-- PAL_kj, and the place at position k
+unfoldable pub withOrder : Order → ℕ → ℕ → ℕ → ℕ → Order
+withOrder o what k j x =
+    record {
+      pal = cond (eqb what 5) (set (o .pal) (cell k j) x) (o .pal);
+      list = cond (eqb what 13) (set (o .list) k (placeAt o j)) (o .list);
+      confirmed = o .confirmed;
+      ordered = o .ordered;
+      waiting = o .waiting;
     }
 
 -- ACK_j of the message at position k
 unfoldable pub withAck : Unit → ℕ → ℕ → ℕ → ℕ → List ℕ
-withAck u what k j x = cond (eqb what 12) (set (u .acks) (8 * placeAt (u .core) k + (j - 1)) x) (u .acks)
+withAck u what k j x = cond (eqb what 12) (set (u .acks) (8 * placeAt (u .core .order) k + (j - 1)) x) (u .acks)
 
 unfoldable pub changedOf : Unit → ℕ → ℕ → ℕ → ℕ → Unit
 changedOf u what k j x =
+    let c : Core = withMessage (withEntry (withNumber (u .core) what x) what k j x) what k x in
     record {
-      core = withMessage (withEntry (withNumber (u .core) what x) what k j x) what k j x;
+      core = state.withOrder c (withOrder (u .core .order) what k j x);
       acks = withAck u what k j x;
       bytes = u .bytes;
       frames = u .frames;

@@ -158,6 +158,7 @@ fn seen(u: Unit, call: u8, k: u8) -> Made
     }
 }
 
+// The call that a record names. Calls that write nothing leave the output as it was.
 pub fn make(u: Unit, s: &[u8], out: &mut [u8]) -> Made
     requires { ⌜ 208 ≤ length (now s) ⌝ }
     ensures { λ r. ⌜ Gives (madeOf u (now (s .entry)) (now (out .entry))) r (now (out .exit)) ⌝ }

@@ -1,7 +1,8 @@
 // Units that no run of calls makes: one number of a unit is set.
 ghost use mathlib.Core.Path.{_≡_};
 ghost use lib.ListN.{set};
-ghost use Rattle.replay.specs.Changes.{withNumber, withEntry, withMessage, withAck, changedOf};
+ghost use Rattle.replay.specs.Changes.{withNumber, withEntry, withMessage, withOrder, withAck, changedOf};
+use lists::Order;
 use state::Core;
 use tables;
 use unit::Unit;
@@ -53,7 +54,7 @@ fn with_number(mut c: Core, what: u8, x: u32) -> Core
     }
 }
 
-// REQ_k, HEARD_k, BUF_k, AL_kj and PAL_kj.
+// REQ_k, HEARD_k, BUF_k and AL_kj.
 fn with_entry(mut c: Core, what: u8, k: u8, j: u8, x: u32) -> Core
     ensures { λ r. ⌜ r ≡ withEntry c what k j x ⌝ }
 {
@@ -84,24 +85,16 @@ fn with_entry(mut c: Core, what: u8, k: u8, j: u8, x: u32) -> Core
             c.al = al;
             c
         }
-        5 => {
-            let mut order = c.order;
-            let mut pal = order.pal;
-            put(&mut pal, cell, x);
-            order.pal = pal;
-            c.order = order;
-            c
-        }
         _ => c,
     }
 }
 
-// SEQ and data length of the message at position k, and the place of that position.
-fn with_message(mut c: Core, what: u8, k: u8, j: u8, x: u32) -> Core
-    ensures { λ r. ⌜ r ≡ withMessage c what k j x ⌝ }
+// SEQ and data length of the message at position k.
+fn with_message(mut c: Core, what: u8, k: u8, x: u32) -> Core
+    ensures { λ r. ⌜ r ≡ withMessage c what k x ⌝ }
 {
-    let mut order = c.order;
-    let mut list = order.list;
+    let order = c.order;
+    let list = order.list;
     let place = tables::byte(&list, k as usize) as usize;
     match what {
         10 => {
@@ -116,14 +109,30 @@ fn with_message(mut c: Core, what: u8, k: u8, j: u8, x: u32) -> Core
             c.lens = lens;
             c
         }
+        _ => c,
+    }
+}
+
+// PAL_kj, and the place at position k.
+fn with_order(mut o: Order, what: u8, k: u8, j: u8, x: u32) -> Order
+    ensures { λ r. ⌜ r ≡ withOrder o what k j x ⌝ }
+{
+    match what {
+        5 => {
+            let mut pal = o.pal;
+            let row = tables::before(k) as usize;
+            put(&mut pal, 8 * row + (tables::before(j) as usize), x);
+            o.pal = pal;
+            o
+        }
         13 => {
+            let mut list = o.list;
             let same = tables::byte(&list, j as usize);
             put_byte(&mut list, k as usize, same);
-            order.list = list;
-            c.order = order;
-            c
+            o.list = list;
+            o
         }
-        _ => c,
+        _ => o,
     }
 }
 
@@ -149,9 +158,12 @@ pub fn changed(mut u: Unit, what: u8, k: u8, j: u8, x: u32) -> Unit
 {
     let acks = with_ack(u, what, k, j, x);
     let c = u.core;
+    let order = c.order;
     let d = with_number(c, what, x);
     let e = with_entry(d, what, k, j, x);
-    let f = with_message(e, what, k, j, x);
+    let mut f = with_message(e, what, k, x);
+    let o = with_order(order, what, k, j, x);
+    f.order = o;
     u.core = f;
     u.acks = acks;
     u

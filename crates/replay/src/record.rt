@@ -1,8 +1,7 @@
 // The bytes of a call and of what it gave.
-ghost use mathlib.Core.List.{_++_};
 ghost use mathlib.Core.Path.{_≡_};
 ghost use Prim.Native.Nat.{_+_, _≤_, min};
-ghost use lib.ListN.{length, set};
+ghost use lib.ListN.{length};
 ghost use lib.Seq.{sets};
 ghost use Rattle.replay.specs.Record.{numberAt, textOf, headOf};
 use tables;

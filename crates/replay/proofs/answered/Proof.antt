@@ -1,13 +1,20 @@
 -- `answered` meets its contract: answer and numbers first, then the output as the call leaves it.
 use borrow.Author.Needs.{needs}
 use native.Mathlib.Omega.{arith}
-use mathlib.Core.Path.{sym, ap}
-use lib.ListN.{length}
+use mathlib.Core.List.{_++_}
+use mathlib.Core.Path.{_≡_, sym, ap}
+use lib.ListN.{length, drop}
 use lib.Seq.{length-take-le}
 use Rattle.replay.specs.Run.{blank}
 use Rattle.replay.proofs.RunLaws.{lent-long, answered-gives}
 use Rattle.replay.proofs.answered.Statement.{statement}
 use Rattle.replay.proofs.answered.Tie as tie
+
+-- what is lent and what is not are the whole output
+whole-again : (c : tie.After-lent2) → length (c .before .make .last .1 .1 .0 ++ drop (c .before .before .before .byte .result) (c .before .before .before .before .blank .result)) ≡ 256
+whole-again c =
+    let b = c .before .before .before in
+    lent-long (b .before .blank .result) (c .before .make .last .1 .1 .0) (b .byte .result) (b .before .blank .ensures) (c .lent2 .given)
 
 blank-requires : tie.Need-blank-requires
 blank-requires c κs = search needs
@@ -41,19 +48,22 @@ add-put-bytes : tie.Need-add-put-bytes
 add-put-bytes c = search needs
 
 slice-aggregate-put-bytes-2 : tie.Need-slice-aggregate-put-bytes-2
-slice-aggregate-put-bytes-2 c = sym (lent-long (c .before .before .before .before .before .before .before .before .before .before .before .before .blank .result) (c .before .before .before .before .before .before .before .before .before .make .last .1 .1 .0) (c .before .before .before .before .before .before .before .before .before .before .before .byte .result) (c .before .before .before .before .before .before .before .before .before .before .before .before .blank .ensures) (c .before .before .before .before .before .before .before .before .lent2 .given))
+slice-aggregate-put-bytes-2 c = sym (whole-again (c .before .before .before .before .before .before .before .before))
 
 put-bytes-requires-2 : tie.Need-put-bytes-requires-2
-put-bytes-requires-2 c κs = omega (arith, lent-long (c .before .before .before .before .before .before .before .before .before .before .before .before .blank .result) (c .before .before .before .before .before .before .before .before .before .make .last .1 .1 .0) (c .before .before .before .before .before .before .before .before .before .before .before .byte .result) (c .before .before .before .before .before .before .before .before .before .before .before .before .blank .ensures) (c .before .before .before .before .before .before .before .before .lent2 .given))
+put-bytes-requires-2 c κs = omega (arith, whole-again (c .before .before .before .before .before .before .before .before))
 
 same-length : tie.Need-same-length
 same-length c = search needs
 
 returns : tie.Need-returns
 returns c =
-    let a = c .before .before .before .before .before .before .before .before .before .before .before .before .before .before .before .before .before .before .before .args in
-    answered-gives (a .u) (a .s .now) (a .out .now) (a .at) _ _ (c .before .before .before .before .before .before .before .before .before .before .before .before .before .make .result) _ _ _ _ (c .before .before .before .before .before .before .before .before .before .before .before .before .before .before .before .byte .ensures) (c .before .before .before .before .before .before .before .before .before .before .before .before .before .before .before .before .blank .ensures) (c .before .before .before .before .before .before .before .before .before .before .before .before .before .make .ensures)
-    (c .before .before .before .before .before .before .before .before .before .before .before .head .ensures) (c .before .before .before .before .before .before .before .before .put-bytes .ensures) (c .before .before .before .put-bytes2 .ensures)
+    let p = c .before .before .before .before .before .before .before .before in
+    let m = p .before .before .before .before .before in
+    let b = m .before .before in
+    let a = b .before .before .before .before .args in
+    answered-gives (a .u) (a .s .now) (a .out .now) (a .at) _ _ (m .make .result) _ _ _ _ (b .byte .ensures) (b .before .blank .ensures) (m .make .ensures)
+    (p .before .before .before .head .ensures) (p .put-bytes .ensures) (c .before .before .before .put-bytes2 .ensures)
 
 pub answered-spec : {M : Type 1} → statement M
 answered-spec =

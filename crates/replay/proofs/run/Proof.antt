@@ -1,7 +1,7 @@
 -- `run` meets its contract: after i records it has the units and the replies of i records.
 use borrow.Author.Needs.{needs}
 use native.Mathlib.Omega.{arith}
-use mathlib.Core.Path.{_≡_, refl, ap, _∙_}
+use mathlib.Core.Path.{_≡_, refl, ap}
 use Prim.Native.Nat.{_+_, _-_, _*_, _%_, _≤_}
 use lib.ListN.{length}
 use Rattle.replay.proofs.RunLaws.{After, none-run, one-run, all-run}
@@ -67,17 +67,23 @@ loop-less c = search needs
 
 loop-again : tie.Need-loop-again Inv-loop μ-loop
 loop-again c =
-    let l = c .before .before .before .before .before .before .before .before .loop in
-    let a = c .before .before .before .before .before .before .before .before .before .before .before .args in
+    let b = c .before .before .before .before .before .before in
+    let l = b .before .before .loop in
+    let a = b .before .before .before .before .before .args in
     let long : 208 * l .i + 208 - 208 * l .i ≡ 208 = omega arith in
-    let more = one-run (a .before) (a .input .now) (a .out .now) (l .i) (l .units) (l .out) (l .inv .1) (c .before .before .before .before .before .before .byte .result % 8) (ap (λ x. x % 8) (c .before .before .before .before .before .before .byte .ensures)) (omega arith) _ _ _ (rw long at (c .before .before .answered .ensures)) in
+    let more =
+    one-run (a .before) (a .input .now) (a .out .now) (l .i) (l .units) (l .out) (l .inv .1)
+    (b .byte .result % 8) (ap (λ x. x % 8) (b .byte .ensures)) (omega arith) _ _ _ (rw long at (c .before .before .answered .ensures)) in
     ((omega arith, (search needs, search needs)), more)
 
 same-length : tie.Need-same-length Inv-loop μ-loop
 same-length c = search needs
 
 returns : tie.Need-returns Inv-loop μ-loop
-returns c = let a = c .before .before .before .before .args in all-run (a .before) (a .input .now) (a .out .now) (c .before .loop .i) (a .records) (c .before .loop .units) (c .before .loop .out) (c .before .loop .inv .1) (omega arith)
+returns c =
+    let l = c .before .loop in
+    let a = c .before .before .before .before .args in
+    all-run (a .before) (a .input .now) (a .out .now) (l .i) (a .records) (l .units) (l .out) (l .inv .1) (omega arith)
 
 pub run-spec : {M : Type 1} → statement M
 run-spec =

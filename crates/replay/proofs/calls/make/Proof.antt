@@ -64,7 +64,9 @@ same-length c = search needs
 
 returns-2 : tie.Need-returns-2
 unfolding madeOf
-returns-2 c = rw (named _ (c .before .before .before .before .before .before .before .byte .ensures) (c .before .before .before .before .before .match .keys2), ← c .before .before .before .before .text .ensures) (c .before .before .sent .ensures)
+returns-2 c =
+    let m = c .before .before .before .before .before in
+    rw (named _ (m .before .before .byte .ensures) (m .match .keys2), ← c .before .before .before .before .text .ensures) (c .before .before .sent .ensures)
 
 returns-3 : tie.Need-returns-3
 unfolding madeOf
@@ -75,14 +77,18 @@ same-length-2 c = search needs
 
 returns-4 : tie.Need-returns-4
 unfolding madeOf
-returns-4 c = rw (named _ (c .before .before .before .before .before .before .byte .ensures) (c .before .before .before .before .match .keys4), ← c .before .before .before .before .before .number-at .ensures) (c .before .before .asked .ensures)
+returns-4 c =
+    let m = c .before .before .before .before in
+    rw (named _ (m .before .before .byte .ensures) (m .match .keys4), ← m .before .number-at .ensures) (c .before .before .asked .ensures)
 
 same-length-3 : tie.Need-same-length-3
 same-length-3 c = search needs
 
 returns-5 : tie.Need-returns-5
 unfolding madeOf
-returns-5 c = rw (named _ (c .before .before .before .before .before .before .byte .ensures) (c .before .before .before .before .match .keys5), ← c .before .before .before .before .before .number-at .ensures) (c .before .before .copied .ensures)
+returns-5 c =
+    let m = c .before .before .before .before in
+    rw (named _ (m .before .before .byte .ensures) (m .match .keys5), ← m .before .number-at .ensures) (c .before .before .copied .ensures)
 
 same-length-4 : tie.Need-same-length-4
 same-length-4 c = search needs
@@ -93,13 +99,29 @@ returns-6 c = rw (named _ (c .before .before .before .before .before .before .by
 
 returns-7 : tie.Need-returns-7
 unfolding madeOf
-returns-7 c = rw (named _ (c .before .before .before .before .before .before .byte .ensures) (c .before .before .before .before .match .keys7)) (record { result = rw (c .changed .ensures, c .before .before .before .byte2 .ensures, c .before .before .byte3 .ensures, c .before .byte4 .ensures, c .before .before .before .before .before .number-at .ensures); output = refl })
+returns-7 c =
+    let m = c .before .before .before .before in
+    rw (named _ (m .before .before .byte .ensures) (m .match .keys7))
+    (record {
+      result = rw (c .changed .ensures, c .before .before .before .byte2 .ensures, c .before .before .byte3 .ensures, c .before .byte4 .ensures, m .before .number-at .ensures);
+      output = refl;
+    })
 
 returns-8 : tie.Need-returns-8
 unfolding madeOf
 returns-8 c =
     let r = c .before .match .rest in
-    rw (← c .before .before .before .byte .ensures, ← c .before .before .number-at .ensures, ne-eqb _ 0 (r .0 .0 .0 .0 .0 .0 .1), ne-eqb _ 1 (r .0 .0 .0 .0 .0 .1), ne-eqb _ 2 (r .0 .0 .0 .0 .1), ne-eqb _ 3 (r .0 .0 .0 .1), ne-eqb _ 4 (r .0 .0 .1), ne-eqb _ 5 (r .0 .1), ne-eqb _ 12 (r .1))
+    rw (
+      ← c .before .before .before .byte .ensures,
+      ← c .before .before .number-at .ensures,
+      ne-eqb _ 0 (r .0 .0 .0 .0 .0 .0 .1),
+      ne-eqb _ 1 (r .0 .0 .0 .0 .0 .1),
+      ne-eqb _ 2 (r .0 .0 .0 .0 .1),
+      ne-eqb _ 3 (r .0 .0 .0 .1),
+      ne-eqb _ 4 (r .0 .0 .1),
+      ne-eqb _ 5 (r .0 .1),
+      ne-eqb _ 12 (r .1),
+    )
     (record { result = c .seen .ensures; output = refl })
 
 pub make-spec : {M : Type 1} → statement M

@@ -45,7 +45,24 @@ open-requires c κs = search needs
 
 returns : tie.Need-returns
 unfolding openMade
-returns c = rw (c .before .«open» .ensures .exact, c .before .before .before .before .before .before .before .before .before .before .before .before .before .number-at .ensures, c .before .before .before .before .before .before .before .before .before .before .before .before .number-at2 .ensures, c .before .before .before .before .before .before .before .before .before .before .before .number-at3 .ensures, c .before .before .before .before .before .before .before .before .before .before .number-at4 .ensures, c .before .before .before .before .before .before .before .before .before .number-at5 .ensures, c .before .before .before .before .before .before .before .before .number-at6 .ensures, c .before .before .before .before .before .before .before .number-at7 .ensures, c .before .before .before .before .before .before .number-at8 .ensures, c .before .before .before .before .before .byte .ensures, c .before .before .before .before .byte2 .ensures, c .before .before .before .byte3 .ensures, c .before .before .number-at9 .ensures)
+returns c =
+    let b = c .before .before .before .before .before in
+    let m = b .before .before .before .before in
+    rw (
+      c .before .«open» .ensures .exact,
+      m .before .before .before .before .number-at .ensures,
+      m .before .before .before .number-at2 .ensures,
+      m .before .before .number-at3 .ensures,
+      m .before .number-at4 .ensures,
+      m .number-at5 .ensures,
+      b .before .before .before .number-at6 .ensures,
+      b .before .before .number-at7 .ensures,
+      b .before .number-at8 .ensures,
+      b .byte .ensures,
+      c .before .before .before .before .byte2 .ensures,
+      c .before .before .before .byte3 .ensures,
+      c .before .before .number-at9 .ensures,
+    )
 
 pub opened-spec : {M : Type 1} → statement M
 opened-spec =

@@ -16,9 +16,12 @@ with-entry-requires c κs = search needs
 with-message-requires : tie.Need-with-message-requires
 with-message-requires c κs = search needs
 
+with-order-requires : tie.Need-with-order-requires
+with-order-requires c κs = search needs
+
 returns : tie.Need-returns
 unfolding changedOf
-returns c = rw (c .with-message .ensures, c .before .with-entry .ensures, c .before .before .with-number .ensures, c .before .before .before .before .with-ack .ensures)
+returns c = rw (c .with-order .ensures, c .before .with-message .ensures, c .before .before .with-entry .ensures, c .before .before .before .with-number .ensures, c .before .before .before .before .before .before .with-ack .ensures)
 
 pub changed-spec : {M : Type 1} → statement M
 changed-spec =
@@ -28,4 +31,5 @@ changed-spec =
     with-number-requires
     with-entry-requires
     with-message-requires
+    with-order-requires
     returns)

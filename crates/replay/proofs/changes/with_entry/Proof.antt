@@ -47,12 +47,6 @@ slice-aggregate-put-4 c = search needs
 put-requires-4 : tie.Need-put-requires-4
 put-requires-4 c κs = search needs
 
-slice-aggregate-put-5 : tie.Need-slice-aggregate-put-5
-slice-aggregate-put-5 c = search needs
-
-put-requires-5 : tie.Need-put-requires-5
-put-requires-5 c κs = search needs
-
 returns : tie.Need-returns
 unfolding withEntry
 returns c = rw (c .before .before .before .before .match .keys1, c .before .put .ensures, c .before .before .before .before .before .before .before2 .ensures)
@@ -70,11 +64,7 @@ unfolding withEntry
 returns-4 c = rw (c .before .before .before .before .match .keys4, c .before .put4 .ensures, c .before .before .before .before .before .before .before2 .ensures, c .before .before .before .before .before .before3 .ensures)
 
 returns-5 : tie.Need-returns-5
-unfolding withEntry
-returns-5 c = rw (c .before .before .before .before .before .match .keys5, c .before .put5 .ensures, c .before .before .before .before .before .before .before .before2 .ensures, c .before .before .before .before .before .before .before3 .ensures)
-
-returns-6 : tie.Need-returns-6
-returns-6 c = let r = c .match .rest in entry-rest _ _ _ _ _ (r .0 .0 .0 .0 .1) (r .0 .0 .0 .1) (r .0 .0 .1) (r .0 .1) (r .1)
+returns-5 c = let r = c .match .rest in entry-rest _ _ _ _ _ (r .0 .0 .0 .1) (r .0 .0 .1) (r .0 .1) (r .1)
 
 pub with-entry-spec : {M : Type 1} → statement M
 with-entry-spec =
@@ -94,11 +84,8 @@ with-entry-spec =
     put-requires-3
     slice-aggregate-put-4
     put-requires-4
-    slice-aggregate-put-5
-    put-requires-5
     returns
     returns-2
     returns-3
     returns-4
-    returns-5
-    returns-6)
+    returns-5)

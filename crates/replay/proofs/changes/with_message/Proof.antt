@@ -29,18 +29,6 @@ cast-put-byte c = search needs
 put-byte-requires : tie.Need-put-byte-requires
 put-byte-requires c κs = search needs
 
-slice-aggregate-byte-2 : tie.Need-slice-aggregate-byte-2
-slice-aggregate-byte-2 c = search needs
-
-byte-requires-2 : tie.Need-byte-requires-2
-byte-requires-2 c κs = search needs
-
-slice-aggregate-put-byte-2 : tie.Need-slice-aggregate-put-byte-2
-slice-aggregate-put-byte-2 c = search needs
-
-put-byte-requires-2 : tie.Need-put-byte-requires-2
-put-byte-requires-2 c κs = search needs
-
 returns : tie.Need-returns
 unfolding withMessage
 returns c = rw (c .before .before .before .before .match .keys1, c .before .put .ensures, c .before .before .before .before .before .byte .ensures)
@@ -50,11 +38,7 @@ unfolding withMessage
 returns-2 c = rw (c .before .before .before .before .match .keys2, c .before .put-byte .ensures, c .before .before .before .before .before .byte .ensures)
 
 returns-3 : tie.Need-returns-3
-unfolding withMessage
-returns-3 c = rw (c .before .before .before .before .before .match .keys3, c .before .put-byte2 .ensures, c .before .before .before .byte2 .ensures)
-
-returns-4 : tie.Need-returns-4
-returns-4 c = let r = c .match .rest in message-rest _ _ _ _ _ (r .0 .0 .1) (r .0 .1) (r .1)
+returns-3 c = let r = c .match .rest in message-rest _ _ _ _ (r .0 .1) (r .1)
 
 pub with-message-spec : {M : Type 1} → statement M
 with-message-spec =
@@ -68,11 +52,6 @@ with-message-spec =
     slice-aggregate-put-byte
     cast-put-byte
     put-byte-requires
-    slice-aggregate-byte-2
-    byte-requires-2
-    slice-aggregate-put-byte-2
-    put-byte-requires-2
     returns
     returns-2
-    returns-3
-    returns-4)
+    returns-3)

@@ -21,10 +21,12 @@ impl Caller {
         }
     }
 
+    /// Where nothing is stored, mostly another i, n or W: what is stored would mostly stand in the way.
     fn odd_setting(&mut self, unit: &Unit) -> Option<Setting> {
         let k = self.random.between(1, unit.size);
         let j = self.random.between(1, unit.size);
-        let (field, value) = match self.random.below(24) {
+        let kinds = if is_empty(unit) && self.random.one_in(2) { 15..18 } else { 0..24 };
+        let (field, value) = match self.random.between(kinds.start, kinds.end - 1) {
             0..3 => (Field::Heard, self.near(unit.heard[k - 1])),
             3..6 => (Field::Req, self.near(unit.req[k - 1])),
             6..9 => (Field::Al, self.near(unit.al[k - 1][j - 1])),
@@ -78,8 +80,11 @@ fn leaves_known(unit: &Unit, settings: &[Setting]) -> bool {
     }
     let kept_numbers = |unit: &Unit| (unit.own, unit.min_al(unit.own), unit.seq);
     let shrinks = after.size < unit.size || after.window < unit.window;
-    let is_empty = (1..=unit.size).all(|k| unit.places_taken_by(k) == 0);
     after.is_sound()
         && (unit.kept.is_empty() || kept_numbers(&after) == kept_numbers(unit))
-        && (!shrinks || is_empty)
+        && (!shrinks || is_empty(unit))
+}
+
+fn is_empty(unit: &Unit) -> bool {
+    (1..=unit.size).all(|k| unit.places_taken_by(k) == 0)
 }

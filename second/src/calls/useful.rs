@@ -54,13 +54,12 @@ impl Caller {
         true
     }
 
-    /// Of the units that may send, mostly one that keeps least; seldom one without a free place.
+    /// Of the units that may send, mostly one that keeps least; seldom one that may not.
     fn send(&mut self) -> bool {
         let dares = self.random.one_in(8);
         let may_send = |unit: &Unit| {
-            let own_places = unit.places_taken_by(unit.own);
-            let has_place = own_places < 4 * unit.window || dares;
-            unit.window_is_open() && SENDABLE.contains(&unit.seq) && has_place
+            let has_place = unit.places_taken_by(unit.own) < 4 * unit.window;
+            dares || unit.window_is_open() && SENDABLE.contains(&unit.seq) && has_place
         };
         let mut ready = self.sound_members();
         ready.retain(|&slot| may_send(self.unit(slot)));

@@ -37,7 +37,7 @@ impl Manner {
             aimless: 5,
             haste: random.between(4, 20),
             episodes: 1,
-            calls: 10 * size * size + 80 * size + 100,
+            calls: 8 * size * size + 70 * size + 100,
             ..Manner::default()
         };
         let short = Manner { episodes: 2, calls: 150, aimless: 10, ..talk.clone() };

@@ -86,7 +86,7 @@ impl Caller {
         let awaited: Vec<usize> =
             (0..self.size).filter(|&slot| !self.inboxes[slot].is_empty()).collect();
         let Some(slot) = self.random.pick(&awaited) else { return false };
-        let overtakes = self.random.below(60) <= self.manner.loss;
+        let overtakes = self.random.below(60) < self.manner.loss;
         let at = if overtakes { self.random.below(self.inboxes[slot].len()) } else { 0 };
         let Some(frame) = self.inboxes[slot].remove(at) else { return false };
         let answer = self.arrive(slot, &frame);

@@ -19,7 +19,7 @@ pub struct Manner {
     pub loss: usize,
     /// One time in how many a unit sends although frames could arrive.
     pub haste: usize,
-    /// Whether half of the units never take, and the first one sends whenever it can.
+    /// Whether half of the units never take.
     pub hoarding: bool,
     /// Whether what is not useful mostly befalls the first unit.
     pub alone: bool,
@@ -37,7 +37,7 @@ impl Manner {
             aimless: 5,
             haste: random.between(4, 20),
             episodes: 1,
-            calls: 10 * size * size + 80 * size + 100,
+            calls: 8 * size * size + 70 * size + 100,
             ..Manner::default()
         };
         let short = Manner { episodes: 2, calls: 150, aimless: 10, ..talk.clone() };
@@ -45,13 +45,16 @@ impl Manner {
         match kind % 10 {
             0 => talk,
             1 => Manner { late: true, ..talk },
-            2 => Manner { loss: random.between(1, 16 / size), spoiled: 1, ..talk },
+            2 => {
+                let loss = random.between(1, 16 / size);
+                Manner { loss, spoiled: 1, calls: talk.calls + 60 * size, ..talk }
+            }
             3 => Manner { hoarding: true, ..talk },
             4 => alone,
             5 => Manner { hoarding: true, late: true, ..alone },
             6 => Manner { forged: 10, spoiled: 25, loss: 10, ..short },
             7 => Manner { broken: 6, calls: 60 * size + 250, ..talk },
-            8 => Manner { odd: 10, forged: 55, calls: 250, ..alone },
+            8 => Manner { odd: 12, forged: 55, calls: 300, ..alone },
             _ => Manner { odd: 4, forged: 20, spoiled: 4, broken: 2, late: true, ..short },
         }
     }

@@ -10,10 +10,12 @@ impl Caller {
         let unit = self.unit(slot).clone();
         let settings = if unit.kept.is_empty() && self.random.one_in(6) {
             self.jump(&unit)
+        } else if self.random.one_in(2) {
+            expect_no_more(&unit).into_iter().collect()
         } else {
             self.odd_setting(&unit).into_iter().collect()
         };
-        if leaves_known(&unit, &settings) {
+        if !settings.is_empty() && leaves_known(&unit, &settings) {
             for setting in settings {
                 self.call(slot, &Call::Set(setting), 0);
             }
@@ -21,10 +23,12 @@ impl Caller {
         }
     }
 
+    /// Where nothing is stored, mostly another i, n or W: what is stored would mostly stand in the way.
     fn odd_setting(&mut self, unit: &Unit) -> Option<Setting> {
         let k = self.random.between(1, unit.size);
-        let j = self.random.between(1, unit.size);
-        let (field, value) = match self.random.below(24) {
+        let j = if self.random.one_in(4) { unit.own } else { self.random.between(1, unit.size) };
+        let kinds = if is_empty(unit) && self.random.one_in(2) { 15..18 } else { 0..24 };
+        let (field, value) = match self.random.between(kinds.start, kinds.end - 1) {
             0..3 => (Field::Heard, self.near(unit.heard[k - 1])),
             3..6 => (Field::Req, self.near(unit.req[k - 1])),
             6..9 => (Field::Al, self.near(unit.al[k - 1][j - 1])),
@@ -69,6 +73,15 @@ impl Caller {
     }
 }
 
+/// Lets another unit expect no more than there is, so that its messages do not go backward for ever.
+fn expect_no_more(unit: &Unit) -> Option<Setting> {
+    let pairs = (1..=unit.size).flat_map(|k| (1..=unit.size).map(move |j| (k, j)));
+    let mut stuck =
+        pairs.filter(|&(k, j)| j != unit.own && unit.al[k - 1][j - 1] > unit.req[k - 1]);
+    let (k, j) = stuck.next()?;
+    Some(Setting { field: Field::Al, k: k as u8, j: j as u8, value: unit.req[k - 1] })
+}
+
 /// Whether the rules say all about the unit after the settings: it is sound, the kept frames are those of before, and
 /// no place or number of the old group is left outside the new one.
 fn leaves_known(unit: &Unit, settings: &[Setting]) -> bool {
@@ -78,8 +91,11 @@ fn leaves_known(unit: &Unit, settings: &[Setting]) -> bool {
     }
     let kept_numbers = |unit: &Unit| (unit.own, unit.min_al(unit.own), unit.seq);
     let shrinks = after.size < unit.size || after.window < unit.window;
-    let is_empty = (1..=unit.size).all(|k| unit.places_taken_by(k) == 0);
     after.is_sound()
         && (unit.kept.is_empty() || kept_numbers(&after) == kept_numbers(unit))
-        && (!shrinks || is_empty)
+        && (!shrinks || is_empty(unit))
+}
+
+fn is_empty(unit: &Unit) -> bool {
+    (1..=unit.size).all(|k| unit.places_taken_by(k) == 0)
 }

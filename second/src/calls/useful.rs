@@ -54,18 +54,19 @@ impl Caller {
         true
     }
 
-    /// Of the units that may send, mostly one that keeps least; seldom one without a free place.
+    /// Of the units that may send, mostly one that keeps least; seldom one that may not. A unit waits with the last
+    /// number of its window until it has heard what is on its way: where all are hasty, all windows stay shut.
     fn send(&mut self) -> bool {
         let dares = self.random.one_in(8);
-        let may_send = |unit: &Unit| {
-            let own_places = unit.places_taken_by(unit.own);
-            let has_place = own_places < 4 * unit.window || dares;
-            unit.window_is_open() && SENDABLE.contains(&unit.seq) && has_place
-        };
         let mut ready = self.sound_members();
-        ready.retain(|&slot| may_send(self.unit(slot)));
+        ready.retain(|&slot| may_send(self.unit(slot)) != dares);
+        if !dares {
+            let is_patient = |unit: &Unit| unit.kept.len() + 1 >= unit.window;
+            ready.retain(|&slot| self.inboxes[slot].is_empty() || !is_patient(self.unit(slot)));
+        }
         let quietest = ready.iter().copied().min_by_key(|&slot| self.unit(slot).kept.len());
-        let talker = ready.first().copied().filter(|&slot| slot == 0 && self.manner.hoarding);
+        let talks = self.manner.hoarding || self.manner.alone;
+        let talker = ready.first().copied().filter(|&slot| slot == 0 && talks);
         let any = if self.random.one_in(3) { self.random.pick(&ready) } else { None };
         let chosen = talker.or(any).or(quietest);
         let Some(slot) = chosen else { return false };
@@ -80,31 +81,32 @@ impl Caller {
         true
     }
 
-    /// Lets a frame on its way arrive, mostly the oldest, and sometimes not for the last time.
+    /// Lets a frame on its way arrive, mostly the oldest; one that came too soon often comes again.
     fn deliver(&mut self) -> bool {
         let awaited: Vec<usize> =
             (0..self.size).filter(|&slot| !self.inboxes[slot].is_empty()).collect();
         let Some(slot) = self.random.pick(&awaited) else { return false };
-        let overtakes = self.random.below(60) <= self.manner.loss;
+        let overtakes = self.random.below(60) < self.manner.loss;
         let at = if overtakes { self.random.below(self.inboxes[slot].len()) } else { 0 };
         let Some(frame) = self.inboxes[slot].remove(at) else { return false };
-        if self.random.one_in(40) {
-            self.inboxes[slot].push_back(frame.clone());
+        let answer = self.arrive(slot, &frame);
+        let odds = if matches!(answer, 9 | 10 | 12) { 2 } else { 40 };
+        if self.random.one_in(odds) {
+            self.inboxes[slot].push_back(frame);
         }
-        self.arrive(slot, &frame);
         true
     }
 
-    /// Lets a frame arrive; what a request asks for is copied out and sent on its way.
-    pub fn arrive(&mut self, slot: usize, frame: &[u8]) {
+    /// Lets a frame arrive; what a request asks for is copied out and sent on its way. Gives the answer.
+    pub fn arrive(&mut self, slot: usize, frame: &[u8]) -> u8 {
         let reply = self.call(slot, &Call::Arrive(frame), 0);
         let [first, last, _] = reply.numbers;
-        let Some(Frame::Request(request)) = frames::read(frame) else { return };
-        if reply.answer == 0 {
+        if let (0, Some(Frame::Request(request))) = (reply.answer, frames::read(frame)) {
             for number in first..=last {
                 self.resend(slot, number, usize::from(request.src) - 1);
             }
         }
+        reply.answer
     }
 
     fn resend(&mut self, slot: usize, number: u32, to: usize) {
@@ -185,4 +187,9 @@ impl Caller {
         record.bytes[0] = self.random.between(14, 255) as u8;
         self.make(record);
     }
+}
+
+fn may_send(unit: &Unit) -> bool {
+    let has_place = unit.places_taken_by(unit.own) < 4 * unit.window;
+    unit.window_is_open() && SENDABLE.contains(&unit.seq) && has_place
 }

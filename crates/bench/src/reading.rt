@@ -6,7 +6,6 @@ use script::line;
 use script::line::Group;
 use script::line::Line;
 use script::print;
-ghost use mathlib.Core.Path.{_≡_};
 ghost use Prim.Native.Nat.{_*_, _≤_};
 ghost use lib.ListN.{length};
 ghost use Rattle.script.specs.Shown.{groupIn};

@@ -7,7 +7,7 @@ use native.Mathlib.Omega.{arith}
 use borrow.Author.Tests.{le-ltb}
 use lib.ListN.{length, take, replicate, length-replicate}
 use lib.Seq.{length-take-le}
-use Rattle.rules.specs.Message.{Message, message, last, decode}
+use Rattle.rules.specs.Message.{message, last, decode}
 use Rattle.rules.specs.Lawful.{Each, nil, cons, Lawful}
 use Rattle.rules.proofs.MapsLaws.{is-between}
 use Rattle.frame.specs.declared.Frame.{Frame}

@@ -9,6 +9,5 @@ pub mod WrittenLaws
 pub mod HeldLaws
 pub mod SaidLaws
 pub mod ReaderLaws
-pub mod PartLaws
 pub mod Determined
 pub mod Cases

@@ -1,12 +1,11 @@
 -- How the code holds the line that is not ended yet.
 use mathlib.Core.Bool.{true, false, cond}
-use mathlib.Core.List.{List, [], _∷_}
 use mathlib.Core.Path.{_≡_}
 use Prim.Native.Nat.{ℕ, _+_}
 use lib.Dec.{ltb}
 use lib.ListN.{take, set, replicate}
 use Rattle.script.specs.Lines.{longest}
-use Rattle.script.specs.Reader.{Begun, longer, longerBy}
+use Rattle.script.specs.Reader.{Begun, longer}
 use Rattle.script.specs.declared.collector.Collector.{Collector}
 
 unfoldable pub emptied : Collector
@@ -26,16 +25,7 @@ overrun c = record { bytes = c .bytes; len = c .len; long = true }
 unfoldable pub pushed : Collector → ℕ → Collector
 pushed c b = cond (ltb (c .len) longest) (storing c b) (overrun c)
 
-abbrev pub extended : Collector → List ℕ → Collector
-extended c [] = c
-extended c (b ∷ l) = extended (pushed c b) l
-
 -- r is c with a further byte
 pub record Pushed (c : Collector) (b : ℕ) (r : Collector) : Type 0 where
   pub exact : r ≡ pushed c b
   pub means : begunOf r ≡ longer (begunOf c) b
-
--- r is c with these bytes
-pub record Extended (c : Collector) (l : List ℕ) (r : Collector) : Type 0 where
-  pub exact : r ≡ extended c l
-  pub means : begunOf r ≡ longerBy (begunOf c) l

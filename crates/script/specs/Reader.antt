@@ -27,10 +27,6 @@ longer l b =
     (record { bytes = l .bytes ++ (b ∷ []); long = l .long })
     (record { bytes = l .bytes; long = true })
 
-abbrev pub longerBy : Begun → List ℕ → Begun
-longerBy l [] = l
-longerBy l (b ∷ bs) = longerBy (longer l b) bs
-
 unfoldable pub commandIn : Begun → Command
 commandIn l = cond (l .long) unreadable (command (l .bytes))
 

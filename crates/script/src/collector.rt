@@ -6,7 +6,7 @@ ghost use Prim.Native.Nat.{_≤_};
 ghost use lib.ListN.{length};
 ghost use Rattle.script.specs.Reader.{commandIn};
 ghost use Rattle.script.specs.Shown.{shown};
-ghost use Rattle.script.specs.Gathered.{emptied, Pushed, Extended, begunOf};
+ghost use Rattle.script.specs.Gathered.{emptied, Pushed, begunOf};
 
 // The first 80 bytes of the line, and whether there were more.
 pub struct Collector {
@@ -37,19 +37,6 @@ impl Collector {
         }
         self.long = true;
         self
-    }
-
-    // All bytes of a part: those before a line feed.
-    pub fn extend(self, part: &[u8]) -> Self
-        ensures { λ r. ⌜ Extended self (now (part .entry)) r ⌝ }
-    {
-        let mut c = self;
-        let mut i = 0;
-        while i < part.len() {
-            c = c.push(part[i]);
-            i += 1;
-        }
-        c
     }
 
     // How many of the bytes are the line's.

@@ -1,7 +1,7 @@
 -- `with_bytes` meets its contract: the sum so far, continued with the bytes that are left, is the sum over all.
 use borrow.Author.Needs.{needs}
 use native.Mathlib.Omega.{arith}
-use mathlib.Core.Path.{_≡_, sym, ap, _∙_}
+use mathlib.Core.Path.{_≡_, sym, _∙_}
 use Prim.Native.Nat.{_-_, _≤_}
 use lib.ListN.{length, drop}
 use Rattle.drive.specs.Run.{withBytes}

@@ -1,6 +1,6 @@
 -- One law for each way out of taking, asking and copying.
 use mathlib.Core.Bool.{true, false}
-use mathlib.Core.List.{List, []}
+use mathlib.Core.List.{List}
 use mathlib.Core.Logic.{_≢_}
 use mathlib.Core.Path.{_≡_, refl}
 use Prim.Native.Nat.{ℕ, _+_, _*_, _≤_, _<_}
@@ -9,26 +9,19 @@ use borrow.Author.Tests.{eq-eqb, ne-eqb, le-leb, lt-leb, lt-ltb, le-ltb}
 use Rattle.rules.specs.Maps.{between, at}
 use Rattle.rules.specs.Calls.{written}
 use Rattle.rules.proofs.MapsLaws.{is-between}
-use Rattle.rules.proofs.SoundLaws.{Ranges}
 use Rattle.tables.specs.Rows.{part}
 use Rattle.lists.specs.declared.Order.{Order}
 use Rattle.lists.specs.Order.{senderOf, withoutFirst}
 use Rattle.framewrite.specs.Writing.{requestOf, requestWritten, Wrote}
 use Rattle.state.specs.declared.Core.{Core}
 use Rattle.state.specs.Soundness.{ownLow, soundOf}
-use Rattle.state.specs.View.{look}
-use Rattle.state.proofs.RoomLaws.{sound-shown}
+use Rattle.state.proofs.RoomLaws.{sound-ranges}
 use Rattle.state.specs.Changed.{withOrder}
 use Rattle.handing.specs.Handing.{Given, Gives, oldestPlace, lengthAt, notTaken, takingOf, handed, notHanded, askingOf, slotFor, copyingOf}
 
 module _ {A : Type 0} where
   gives : (g : Given A) (r : A) (after : List ℕ) → g ≡ record { result = r; output = after } → Gives g r after
   gives g r after e = rw e (record { result = refl; output = refl })
-
--- i, n and W of a sound unit
-pub sound-ranges : (c : Core) (acks : List ℕ) → soundOf c acks ≡ true → Ranges (c .me) (c .n) (c .w)
-unfolding look
-sound-ranges c acks s = sound-shown c acks [] [] s .ranges
 
 -- ---- taking
 

@@ -26,7 +26,7 @@ use Rattle.state.specs.Soundness.{soundOf}
 use Rattle.state.proofs.SoundLaws.{sound-look}
 use Rattle.handing.specs.Handing.{requestFor, askingChecks, askingOf}
 use Rattle.handing.specs.Meant.{handedMeans}
-use Rattle.handing.proofs.Answers.{sound-ranges}
+use Rattle.state.proofs.RoomLaws.{sound-ranges}
 
 -- the first n of a row, as the units' numbers
 take-units : (n : ℕ) (l : List ℕ) → n ≤ length l → take n l ≡ listed 1 n (units n (at l))

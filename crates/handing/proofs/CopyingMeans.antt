@@ -15,11 +15,11 @@ use Rattle.tables.specs.Rows.{part}
 use Rattle.state.specs.declared.Core.{Core}
 use Rattle.state.specs.View.{lowest, keptOf, look}
 use Rattle.state.specs.Soundness.{ownLow, soundOf}
-use Rattle.state.proofs.LookLaws.{minAL-look, lowest-is}
+use Rattle.state.proofs.LookLaws.{low-look, lowest-is}
+use Rattle.state.proofs.RoomLaws.{sound-ranges}
 use Rattle.state.proofs.SoundLaws.{sound-look}
 use Rattle.handing.specs.Handing.{slotFor, lengthFor, copyingChecks, copyingOf}
 use Rattle.handing.specs.Meant.{handedMeans}
-use Rattle.handing.proofs.Answers.{sound-ranges}
 use Rattle.handing.proofs.PartLaws.{length-part}
 
 module _ (c : Core) (acks bytes frames : List ℕ) where
@@ -31,9 +31,9 @@ module _ (c : Core) (acks bytes frames : List ℕ) where
     low : lowest c ≡ ownLow c
     low = let r = sound-ranges c acks h in lowest-is c (r .i-low) (r .i-high)
 
-    pub own-low : minAL s (s .me) ≡ ownLow c
+    pub own-low : ownLow c ≡ minAL s (s .me)
     unfolding look
-    own-low = minAL-look c acks bytes frames (c .me) ∙ low
+    own-low = let r = sound-ranges c acks h in low-look c acks bytes frames (r .i-low) (r .i-high)
 
   module _ (x : ℕ) (out : List ℕ) where
     -- the frame of x, which is kept
@@ -48,7 +48,7 @@ module _ (c : Core) (acks bytes frames : List ℕ) where
       (
         refl,
         λ h. (
-          ap (λ (m : ℕ). not (leb m x && ltb x (c .seq))) (sym (own-low (not-false _ h))),
+          ap (λ (m : ℕ). not (leb m x && ltb x (c .seq))) (own-low (not-false _ h)),
           (
             refl,
             λ e. (

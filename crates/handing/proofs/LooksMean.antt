@@ -2,21 +2,21 @@
 use mathlib.Core.Bool.{true, not}
 use mathlib.Core.List.{List}
 use mathlib.Core.Path.{_≡_, refl, sym, ap, _∙_}
-use Prim.Native.Nat.{ℕ, _-_, _*_}
+use Prim.Native.Nat.{ℕ, _-_}
 use lib.ListN.{length}
 use borrow.Author.Tests.{not-false}
 use Rattle.rules.specs.Maps.{between, at, units}
-use Rattle.rules.specs.State.{State, free}
+use Rattle.rules.specs.State.{State}
 use Rattle.rules.specs.Calls.{Check}
 use Rattle.rules.specs.Looks.{Looked, showing, toTake, freePlaces, keptNumbers, missingOf, waitingOf, wholeChecks as wholeChecksOf, unitChecks as unitChecksOf}
 use Rattle.rules.proofs.CallsLaws.{Passed}
 use Rattle.rules.proofs.AlikeLaws.{Alike, decide-alike}
 use Rattle.lists.specs.View.{Shows}
-use Rattle.lists.proofs.TakenLaws.{taken-length, waitingOf-is}
+use Rattle.lists.proofs.TakenLaws.{waitingOf-is}
 use Rattle.state.specs.declared.Core.{Core}
 use Rattle.state.specs.View.{placeAt, look}
 use Rattle.state.specs.Soundness.{soundOf}
-use Rattle.state.proofs.LookLaws.{holds-look, shows-look}
+use Rattle.state.proofs.LookLaws.{holds-look, shows-look, free-look}
 use Rattle.state.proofs.RoomLaws.{sound-whole}
 use Rattle.state.proofs.SoundLaws.{sound-look}
 use Rattle.handing.specs.Looks.{wholeChecks, unitChecks, toTakeIn, freePlacesIn, keptNumbersIn, missingIn, waitingIn}
@@ -54,14 +54,13 @@ module _ (c : Core) (acks bytes frames : List ℕ) where
   to-take-means = whole _ _ _ _ (λ h. (refl, sym (confirmed-count c acks bytes frames)))
 
   pub free-places-means : freePlacesIn c acks ≡ freePlaces s
-  unfolding freePlacesIn freePlaces free look
-  free-places-means =
-      whole _ _ _ _ (λ h. (refl, ap (λ (m : ℕ). 4 * c .w * c .n - m) (sym (taken-length (placeAt c acks bytes) (c .n) (c .order) s S))))
+  unfolding freePlacesIn freePlaces
+  free-places-means = whole _ _ _ _ (λ h. (refl, free-look c acks bytes frames))
 
   pub kept-numbers-means : keptNumbersIn c acks ≡ keptNumbers s
   unfolding keptNumbersIn keptNumbers look
   kept-numbers-means =
-      whole _ _ _ _ (λ h. let low = sym (own-low c acks bytes frames h) in (low, ap (λ (m : ℕ). c .seq - m) low))
+      whole _ _ _ _ (λ h. let low = own-low c acks bytes frames h in (low, ap (λ (m : ℕ). c .seq - m) low))
 
   module _ (k : ℕ) where
     pub missing-of-means : missingIn c acks k ≡ missingOf s k

@@ -1,15 +1,16 @@
 -- What the looks at a unit show, as its numbers and arrays give it.
 use mathlib.Core.Bool.{not, cond}
 use mathlib.Core.List.{List, [], _∷_}
-use Prim.Native.Nat.{ℕ, _-_, _*_}
+use Prim.Native.Nat.{ℕ, _-_}
 use lib.Dec.{eqb}
 use lib.ListN.{length}
 use Rattle.rules.specs.Maps.{between, at}
 use Rattle.rules.specs.Calls.{Check, _⇒_}
 use Rattle.rules.specs.Looks.{Looked, showing}
-use Rattle.lists.specs.Order.{isOf, only, total, waitings}
+use Rattle.lists.specs.Order.{isOf, only, waitings}
 use Rattle.state.specs.declared.Core.{Core}
 use Rattle.state.specs.Soundness.{ownLow, soundOf}
+use Rattle.state.specs.View.{freePlaces}
 use Rattle.handing.specs.declared.looks.Look.{Look}
 
 abbrev pub lookOf : Looked → Look
@@ -31,7 +32,7 @@ module _ (c : Core) (acks : List ℕ) where
   toTakeIn = showing wholeChecks 0 (c .order .confirmed)
 
   unfoldable pub freePlacesIn : Looked
-  freePlacesIn = showing wholeChecks 0 (4 * c .w * c .n - total (c .order))
+  freePlacesIn = showing wholeChecks 0 (freePlaces c)
 
   unfoldable pub keptNumbersIn : Looked
   keptNumbersIn = showing wholeChecks (ownLow c) (c .seq - ownLow c)

@@ -1,6 +1,5 @@
 // What a unit hands out without storing anything: the oldest confirmed message, a request, a kept frame, and looks.
 ghost use mathlib.Core.Path.{_≡_};
-ghost use Rattle.rules.specs.Maps.{between};
 ghost use Rattle.handing.specs.Handing.{Gives, notTaken, takingOf, askingOf, copyingOf};
 
 mod copy;
@@ -10,6 +9,7 @@ use copy::put_part;
 use framewrite::write_request;
 use lists::without_first;
 use state::Core;
+use state::is_unit;
 use state::own_low;
 use state::sound;
 use tables;
@@ -31,7 +31,7 @@ pub struct Handed {
 }
 
 // Takes the oldest confirmed message: its data stand at the front of the output, and its place is free.
-pub fn taking(c: Core, acks: &[u32], bytes: &[u8], out: &mut [u8]) -> Taken
+pub fn taking<'a>(c: Core, acks: &'a [u32], bytes: &'a [u8], out: &mut [u8]) -> Taken
     ensures { λ r. ⌜ Gives (takingOf c (now (acks .entry)) (now (bytes .entry)) (now (out .entry))) r (now (out .exit)) ⌝ }
 {
     if !sound(c, acks) {
@@ -72,13 +72,6 @@ fn not_taken(c: Core, answer: u32) -> Taken
     }
 }
 
-// k is a unit of a group of n.
-fn is_unit(n: u8, k: u8) -> bool
-    ensures { λ r. ⌜ r ≡ between 1 n k ⌝ }
-{
-    1 <= k && k <= n
-}
-
 // Makes the request for what is missing of unit k, at the front of the output.
 pub fn asking(c: Core, acks: &[u32], k: u8, out: &mut [u8]) -> Handed
     ensures { λ r. ⌜ Gives (askingOf c (now (acks .entry)) k (now (out .entry))) r (now (out .exit)) ⌝ }
@@ -86,7 +79,7 @@ pub fn asking(c: Core, acks: &[u32], k: u8, out: &mut [u8]) -> Handed
     if !sound(c, acks) {
         return Handed { answer: 1, len: 0 };
     }
-    if !is_unit(c.n, k) {
+    if !is_unit(c.n, k as u32) {
         return Handed { answer: 5, len: 0 };
     }
     if k == c.me {
@@ -106,13 +99,13 @@ pub fn asking(c: Core, acks: &[u32], k: u8, out: &mut [u8]) -> Handed
 }
 
 // Copies the kept frame of number x to the front of the output.
-pub fn copying(c: Core, acks: &[u32], frames: &[u8], x: u32, out: &mut [u8]) -> Handed
+pub fn copying<'a>(c: Core, acks: &'a [u32], frames: &'a [u8], x: u32, out: &mut [u8]) -> Handed
     ensures { λ r. ⌜ Gives (copyingOf c (now (acks .entry)) (now (frames .entry)) x (now (out .entry))) r (now (out .exit)) ⌝ }
 {
     if !sound(c, acks) {
         return Handed { answer: 1, len: 0 };
     }
-    let low = own_low(c);
+    let low = own_low(&c.al, c.me, c.n);
     if x < low {
         return Handed { answer: 18, len: 0 };
     }

@@ -1,11 +1,11 @@
 // Looks at a unit: each answers 1 where the unit is not sound and 5 where k is no unit, and then shows nothing.
 ghost use mathlib.Core.Path.{_≡_};
-ghost use Prim.Native.Nat.{_-_};
 ghost use Rattle.rules.specs.Calls.{answerOf};
 ghost use Rattle.handing.specs.Looks.{lookOf, shownWith, wholeChecks, unitChecks, toTakeIn, freePlacesIn, keptNumbersIn, missingIn, waitingIn};
-use crate::is_unit;
 use lists;
+use state;
 use state::Core;
+use state::is_unit;
 use state::own_low;
 use state::sound;
 use tables;
@@ -31,7 +31,7 @@ fn of_unit(c: Core, acks: &[u32], k: u8) -> u32
     if !sound(c, acks) {
         return 1;
     }
-    if is_unit(c.n, k) { 0 } else { 5 }
+    if is_unit(c.n, k as u32) { 0 } else { 5 }
 }
 
 // What is shown with this answer: nothing where it refuses.
@@ -52,13 +52,6 @@ fn shown(answer: u32, first: u32, count: usize) -> Look
     }
 }
 
-// How far a is above b.
-fn above(a: usize, b: usize) -> usize
-    ensures { λ r. ⌜ r ≡ a - b ⌝ }
-{
-    if b < a { a - b } else { 0 }
-}
-
 // How many messages are confirmed and not yet taken.
 pub fn to_take(c: Core, acks: &[u32]) -> Look
     ensures { λ r. ⌜ r ≡ lookOf (toTakeIn c (now (acks .entry))) ⌝ }
@@ -71,17 +64,15 @@ pub fn to_take(c: Core, acks: &[u32]) -> Look
 pub fn free_places(c: Core, acks: &[u32]) -> Look
     ensures { λ r. ⌜ r ≡ lookOf (freePlacesIn c (now (acks .entry))) ⌝ }
 {
-    let places = 4 * (c.w as usize) * (c.n as usize);
-    let o = c.order;
-    shown(whole(c, acks), 0, above(places, lists::taken(o)))
+    shown(whole(c, acks), 0, state::free_places(c) as usize)
 }
 
 // The kept numbers: from minAL of the own index up to SEQ - 1.
 pub fn kept_numbers(c: Core, acks: &[u32]) -> Look
     ensures { λ r. ⌜ r ≡ lookOf (keptNumbersIn c (now (acks .entry))) ⌝ }
 {
-    let low = own_low(c);
-    shown(whole(c, acks), low, above(c.seq as usize, low as usize))
+    let low = own_low(&c.al, c.me, c.n);
+    shown(whole(c, acks), low, tables::above(c.seq, low) as usize)
 }
 
 // The missing numbers of unit k: from REQ on, also where none is missing.
@@ -90,11 +81,7 @@ pub fn missing_of(c: Core, acks: &[u32], k: u8) -> Look
 {
     let req = tables::at(&c.req, k);
     let heard = tables::at(&c.heard, k);
-    shown(
-        of_unit(c, acks, k),
-        req,
-        above(heard as usize, req as usize),
-    )
+    shown(of_unit(c, acks, k), req, tables::above(heard, req) as usize)
 }
 
 // How many of unit k's messages wait.

@@ -1,18 +1,19 @@
 -- The state that a unit's numbers and arrays show: its lists, its places, its minAL.
 use mathlib.Core.List.{List}
-use mathlib.Core.Path.{_≡_, refl}
+use mathlib.Core.Path.{_≡_, refl, sym, ap, _∙_}
 use Prim.Native.Nat.{ℕ, _-_, _*_, _≤_, _<_}
 use lib.ListN.{length, getD}
 use borrow.Author.Tests.{le-leb, lt-ltb}
 use Rattle.rules.specs.Maps.{least}
-use Rattle.rules.specs.State.{minAL}
+use Rattle.rules.specs.State.{State, minAL, free}
 use Rattle.tables.specs.Rows.{grid}
 use Rattle.rules.proofs.MapsLaws.{length-listed}
 use Rattle.tables.proofs.GridLaws.{least-grid}
 use Rattle.lists.specs.View.{Holds, Shows}
+use Rattle.lists.proofs.TakenLaws.{taken-length}
 use Rattle.state.specs.declared.Core.{Core}
-use Rattle.state.specs.View.{placeAt, lowest, keptOf, look}
-use Rattle.state.specs.Soundness.{ownLow}
+use Rattle.state.specs.View.{placeAt, lowest, freePlaces, keptOf, look}
+use Rattle.state.specs.Soundness.{lowIn, ownLow}
 
 module _ (c : Core) (acks bytes : List ℕ) where
   pub holds-look : Holds (placeAt c acks bytes) (c .n) (c .seqs) acks
@@ -28,8 +29,19 @@ module _ (c : Core) (acks bytes : List ℕ) where
   minAL-look frames k = refl
 
 pub lowest-is : (c : Core) → 1 ≤ c .me → c .me ≤ c .n → lowest c ≡ ownLow c
-unfolding ownLow
+unfolding lowIn
 lowest-is c a b = least-grid (c .n) (c .al) (c .me) a b
+
+module _ (c : Core) (acks bytes frames : List ℕ) where
+  abbrev s : State
+  s = look c acks bytes frames
+
+  pub low-look : 1 ≤ c .me → c .me ≤ c .n → ownLow c ≡ minAL s (c .me)
+  low-look a b = sym (minAL-look c acks bytes frames (c .me) ∙ lowest-is c a b)
+
+  pub free-look : freePlaces c ≡ free s
+  unfolding freePlaces free look
+  free-look = ap (λ (m : ℕ). 4 * c .w * c .n - m) (sym (taken-length (placeAt c acks bytes) (c .n) (c .order) s (shows-look c acks bytes frames)))
 
 -- the frame of a kept number is as long as its slot says
 pub kept-length : (c : Core) (frames : List ℕ) (x : ℕ) → lowest c ≤ x → x < c .seq → length (keptOf c frames x) ≡ getD (c .kept) (x - lowest c) 0

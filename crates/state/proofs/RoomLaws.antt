@@ -9,7 +9,7 @@ use lib.ListN.{length}
 use Rattle.rules.specs.Maps.{all, every, listed}
 use Rattle.rules.specs.Sound.{sound}
 use Rattle.rules.proofs.MapsLaws.{and-left, and-right, not-true, every-at}
-use Rattle.rules.proofs.SoundLaws.{Sound, sound-facts}
+use Rattle.rules.proofs.SoundLaws.{Ranges, Sound, sound-facts}
 use Rattle.rules.proofs.SlotsLaws.{taken-most}
 use Rattle.lists.specs.Order.{total, entry, takens}
 use Rattle.lists.specs.View.{Whole}
@@ -29,6 +29,11 @@ module _ (c : Core) (acks : List ℕ) where
   -- the facts of the rules
   pub sound-shown : (bytes frames : List ℕ) → soundOf c acks ≡ true → Sound (look c acks bytes frames)
   sound-shown bytes frames h = sound-facts (look c acks bytes frames) (sym (sound-look c acks bytes frames) ∙ h)
+
+  -- i, n and W are in range
+  pub sound-ranges : soundOf c acks ≡ true → Ranges (c .me) (c .n) (c .w)
+  unfolding look
+  sound-ranges h = sound-shown [] [] h .ranges
 
   -- more than 128 would repeat one
   pub sound-room : soundOf c acks ≡ true → total (c .order) ≤ 128

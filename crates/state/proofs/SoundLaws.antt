@@ -24,7 +24,7 @@ use Rattle.state.specs.View.{placeAt, lowest, keptOf, look}
 use Rattle.state.specs.Soundness.{nextsOf, ownLow, keptLengths, windowOf, placeOf, noneTwice, placesOf, soundOf}
 use Rattle.state.proofs.EveryLaws.{every-same, every-units, every-both, noZero-part}
 use Rattle.state.proofs.PlaceLaws.{place-sender}
-use Rattle.state.proofs.LookLaws.{holds-look, shows-look, minAL-look, lowest-is, kept-length}
+use Rattle.state.proofs.LookLaws.{holds-look, shows-look, low-look, lowest-is, kept-length}
 
 -- a number that can be sent
 sent-range : (x : ℕ) → ltb 0 x && ltb x last ≡ between 1 (last - 1) x
@@ -126,7 +126,7 @@ module _ (c : Core) (acks bytes frames : List ℕ) where
 
   module _ (r : Ranges (c .me) (c .n) (c .w)) where
     low : minAL s (c .me) ≡ ownLow c
-    low = minAL-look c acks bytes frames (c .me) ∙ lowest-is c (r .i-low) (r .i-high)
+    low = sym (low-look c acks bytes frames (r .i-low) (r .i-high))
 
     own : eqb (s .req (s .me)) (s .seq) ≡ eqb (at (c .req) (c .me)) (c .seq)
     unfolding look

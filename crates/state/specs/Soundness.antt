@@ -21,9 +21,13 @@ nextsOf n seq req heard al pal =
     && every 1 n (λ k. noneZero n (at (rowOf al k)))
     && every 1 n (λ k. noneZero n (at (rowOf pal k)))
 
--- minAL of the own index, read from its row
-unfoldable pub ownLow : Core → ℕ
-ownLow c = least (c .n) (at (rowOf (c .al) (c .me)))
+-- minAL of unit k, read from its row
+unfoldable pub lowIn : List ℕ → ℕ → ℕ → ℕ
+lowIn al k n = least n (at (rowOf al k))
+
+-- minAL of the own index
+abbrev pub ownLow : Core → ℕ
+ownLow c = lowIn (c .al) (c .me) (c .n)
 
 -- the first m kept frames, of numbers from minAL on, are 37 + 4n to 85 + 4n bytes long
 unfoldable pub keptLengths : List ℕ → ℕ → ℕ → Bool

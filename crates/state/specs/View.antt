@@ -8,7 +8,7 @@ use lib.ListN.{getD}
 use Rattle.rules.specs.Maps.{at, least, units}
 use Rattle.rules.specs.State.{Place, State}
 use Rattle.tables.specs.Rows.{part, grid}
-use Rattle.lists.specs.Order.{senderOf, slotOf, confirmeds, ordereds, waitings}
+use Rattle.lists.specs.Order.{senderOf, slotOf, total, confirmeds, ordereds, waitings}
 use Rattle.state.specs.declared.Core.{Core}
 
 -- place number p, with the message in it
@@ -25,6 +25,10 @@ placeAt c acks bytes p =
 -- minAL of the own index
 abbrev pub lowest : Core → ℕ
 lowest c = least (c .n) (grid (c .n) (c .al) (c .me))
+
+-- 4Wn less the taken places
+unfoldable pub freePlaces : Core → ℕ
+freePlaces c = 4 * c .w * c .n - total (c .order)
 
 -- the frame in slot i
 abbrev pub keptAt : Core → List ℕ → ℕ → List ℕ

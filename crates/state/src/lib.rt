@@ -2,11 +2,25 @@
 mod fresh;
 mod soundness;
 
+use lists;
 use lists::Order;
 use tables;
 ghost use mathlib.Core.Path.{_≡_};
+ghost use Rattle.rules.specs.Maps.{between};
 ghost use Rattle.state.specs.Opening.{openedOf};
-ghost use Rattle.state.specs.Soundness.{ownLow, soundOf};
+ghost use Rattle.state.specs.Soundness.{lowIn, soundOf};
+ghost use Rattle.state.specs.View.{freePlaces};
+
+// How many units a group has, how wide its window is, and how many bytes of data a message has at most.
+pub const LEAST_UNITS: usize = 2;
+
+pub const MOST_UNITS: usize = 8;
+
+pub const LEAST_WINDOW: usize = 2;
+
+pub const MOST_WINDOW: usize = 4;
+
+pub const MOST_DATA: usize = 48;
 
 // The kept frame of number s is in slot s - minAL of the own index, and `kept` holds its length. `seqs` and `lens`
 // hold number and data length of the message at each place.
@@ -62,10 +76,25 @@ pub fn opened_with(o: Opening) -> Opened
 }
 
 // minAL of the own index.
-pub fn own_low(c: Core) -> u32
-    ensures { λ r. ⌜ r ≡ ownLow c ⌝ }
+pub fn own_low(al: &[u32], me: u8, n: u8) -> u32
+    ensures { λ r. ⌜ r ≡ lowIn (now (al .entry)) me n ⌝ }
 {
-    tables::least_of(tables::row(&c.al, c.me), c.n)
+    tables::least_of(tables::row(al, me), n)
+}
+
+// k is a unit of a group of n.
+pub fn is_unit(n: u8, k: u32) -> bool
+    ensures { λ r. ⌜ r ≡ between 1 n k ⌝ }
+{
+    soundness::between(1, n as u64, k as u64)
+}
+
+// The number of free places.
+pub fn free_places(c: Core) -> u32
+    ensures { λ r. ⌜ r ≡ freePlaces c ⌝ }
+{
+    let order = c.order;
+    tables::above(4 * (c.w as u32) * (c.n as u32), lists::taken(order) as u32)
 }
 
 // Whether the unit is sound.
@@ -82,7 +111,7 @@ pub fn sound(c: Core, acks: &[u32]) -> bool
         return false;
     }
     let kept = c.kept;
-    if !soundness::window_fits(own_low(c), c.w, c.n, c.seq, kept) {
+    if !soundness::window_fits(own_low(&c.al, c.me, c.n), c.w, c.n, c.seq, kept) {
         return false;
     }
     let order = c.order;

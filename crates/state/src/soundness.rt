@@ -1,4 +1,9 @@
 // The tests that make a unit sound, one for each clause.
+use crate::LEAST_UNITS;
+use crate::LEAST_WINDOW;
+use crate::MOST_DATA;
+use crate::MOST_UNITS;
+use crate::MOST_WINDOW;
 use lists;
 use lists::Order;
 use tables;
@@ -19,10 +24,10 @@ pub fn between(low: u64, high: u64, x: u64) -> bool
 pub fn ranges_fit(me: u8, n: u8, w: u8) -> bool
     ensures { λ r. ⌜ r ≡ rangesFit me n w ⌝ }
 {
-    if !between(2, 8, n as u64) {
+    if !between(LEAST_UNITS as u64, MOST_UNITS as u64, n as u64) {
         return false;
     }
-    if !between(2, 4, w as u64) {
+    if !between(LEAST_WINDOW as u64, MOST_WINDOW as u64, w as u64) {
         return false;
     }
     between(1, n as u64, me as u64)
@@ -62,7 +67,7 @@ pub fn kept_fit(kept: [u8; 4], n: u8, m: u32) -> bool
     let mut i: u32 = 0;
     while i < m {
         let long = tables::byte(&kept, i as usize);
-        if !between(least, least + 48, long as u64) {
+        if !between(least, least + (MOST_DATA as u64), long as u64) {
             return false;
         }
         i = i + 1;
@@ -97,7 +102,7 @@ pub fn place_fits<'a>(n: u8, w: u8, seqs: &'a [u32], lens: &'a [u8], acks: &'a [
     if !tables::none_zero(tables::tail(acks, 8 * i), n) {
         return false;
     }
-    tables::byte(lens, i) <= 48
+    tables::byte(lens, i) as usize <= MOST_DATA
 }
 
 // Each taken place fits, and none stands twice in the lists.

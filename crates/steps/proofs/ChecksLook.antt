@@ -1,13 +1,13 @@
 -- The tests of both kinds of frame and of a send, on a unit's numbers and on the state that they show.
 use mathlib.Core.Bool.{Bool, true, false, not, _&&_, _||_}
 use mathlib.Core.List.{List}
-use mathlib.Core.Path.{_≡_, refl, sym, ap, _∙_}
+use mathlib.Core.Path.{_≡_, refl, ap}
 use Prim.Native.Nat.{ℕ, _*_, _≤_}
 use lib.Dec.{eqb, leb}
 use lib.ListN.{length}
 use borrow.Author.Tests.{eqb-true, not-false}
 use Rattle.rules.specs.Maps.{between}
-use Rattle.rules.specs.State.{State, minAL}
+use Rattle.rules.specs.State.{State}
 use Rattle.rules.specs.Calls.{foreign, full}
 use Rattle.rules.proofs.MapsLaws.{between-low, between-high}
 use Rattle.rules.proofs.ChecksLaws.{or-left, or-right}
@@ -15,8 +15,7 @@ use Rattle.lists.specs.View.{Whole}
 use Rattle.lists.proofs.TakenLaws.{takenOf-is}
 use Rattle.state.specs.declared.Core.{Core}
 use Rattle.state.specs.View.{placeAt, look}
-use Rattle.state.specs.Soundness.{ownLow}
-use Rattle.state.proofs.LookLaws.{holds-look, shows-look, minAL-look, lowest-is}
+use Rattle.state.proofs.LookLaws.{holds-look, shows-look}
 use Rattle.frame.specs.declared.Frame.{Frame}
 use Rattle.steps.specs.Checks.{ofGroup, noPlace}
 
@@ -53,6 +52,3 @@ module _ (c : Core) (acks bytes frames : List ℕ) where
   full-look W j =
       ap (leb (4 * c .w))
       (takenOf-is (placeAt c acks bytes) (c .n) (c .order) s (shows-look c acks bytes frames) (c .seqs) acks (holds-look c acks bytes) W j)
-
-  pub low-look : 1 ≤ c .me → c .me ≤ c .n → ownLow c ≡ minAL s (c .me)
-  low-look a b = sym (lowest-is c a b) ∙ sym (minAL-look c acks bytes frames (c .me))

@@ -5,13 +5,12 @@ use mathlib.Core.Path.{_≡_}
 use Prim.Native.Nat.{ℕ, _*_, _≤_}
 use native.Mathlib.Nat.{mul-le-mul}
 use native.Mathlib.Omega.{arith}
-use Rattle.rules.proofs.MapsLaws.{and-left, and-right}
-use Rattle.rules.proofs.SoundLaws.{Ranges, rangesFit-facts}
 use Rattle.rules.proofs.SlotsLaws.{firstFree-le}
 use Rattle.lists.specs.Order.{slotsIn, takens, freeOf}
 use Rattle.lists.specs.declared.Order.{Order}
 use Rattle.state.specs.declared.Core.{Core}
 use Rattle.state.specs.Soundness.{soundOf}
+use Rattle.state.proofs.RoomLaws.{sound-ranges}
 use Rattle.steps.specs.Checks.{Ranged}
 
 pub places-few : (c : Core) → Ranged c → 4 * c .w * c .n ≤ 128
@@ -22,7 +21,6 @@ unfolding freeOf
 freeOf-le o j most = omega (arith, firstFree-le (slotsIn j (takens o)) 0 most)
 
 pub sound-ranged : (c : Core) (acks : List ℕ) → soundOf c acks ≡ true → Ranged c
-unfolding soundOf
 sound-ranged c acks h =
-    let r : Ranges (c .me) (c .n) (c .w) = rangesFit-facts (c .me) (c .n) (c .w) (search (and-left, and-right)) in
+    let r = sound-ranges c acks h in
     record { own = r .i-low; unit = r .i-high; few = r .n-high; narrow = r .w-high }

@@ -16,6 +16,7 @@ use Rattle.rules.specs.Calls.{Check, _⇒_, decide, Result, isUnit, foreign, ar
 use Rattle.rules.proofs.SoundLaws.{Ranges, sound-facts}
 use Rattle.state.specs.declared.Core.{Core}
 use Rattle.state.specs.View.{look}
+use Rattle.state.proofs.LookLaws.{low-look}
 use Rattle.frame.specs.declared.Frame.{Frame}
 use Rattle.frame.specs.Frame.{frameOf}
 use Rattle.steps.specs.declared.Arrival.{Arrival}
@@ -23,7 +24,7 @@ use Rattle.steps.specs.Arrival.{passing, requestArrival}
 use Rattle.steps.specs.Checks.{ofGroup, namesOther, asksWrongly, resendFrom, requestChecks}
 use Rattle.steps.specs.Means.{arrivedAs}
 use Rattle.steps.proofs.AckLaws.{at-eight}
-use Rattle.steps.proofs.ChecksLook.{group-look, low-look}
+use Rattle.steps.proofs.ChecksLook.{group-look}
 use Rattle.rules.proofs.DecideLaws.{decide-answer, decide-map}
 
 module _ (c : Core) (acks bytes frames : List ℕ) (r : Request) where

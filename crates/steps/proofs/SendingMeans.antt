@@ -2,14 +2,14 @@
 use mathlib.Core.Bool.{Bool, true, false, cond, not}
 use mathlib.Core.List.{List, [], _∷_}
 use mathlib.Core.Path.{_≡_, refl, sym, ap, subst, _∙_}
-use Prim.Native.Nat.{ℕ, _+_, _-_, _*_, _≤_}
+use Prim.Native.Nat.{ℕ, _+_, _*_, _≤_}
 use native.Mathlib.Omega.{arith}
 use lib.Dec.{leb, ltb}
 use lib.ListN.{length, drop}
 use borrow.Author.Tests.{ne-eqb}
 use Rattle.rules.specs.Maps.{at, least, units}
 use Rattle.rules.specs.Message.{Message, last}
-use Rattle.rules.specs.State.{State, free}
+use Rattle.rules.specs.State.{State}
 use Rattle.rules.specs.Steps.{window, maySend, outgoing, sent}
 use Rattle.rules.specs.Sound.{sound}
 use Rattle.rules.specs.Calls as rules
@@ -22,11 +22,10 @@ use Rattle.rules.proofs.SendLaws.{Sends, passed-sends, outgoing-carries}
 use Rattle.rules.proofs.CallSound.{send-storable}
 use Rattle.tables.proofs.GridLaws.{grid-row, least-grid}
 use Rattle.lists.specs.View.{Whole}
-use Rattle.lists.proofs.TakenLaws.{taken-length}
 use Rattle.state.specs.declared.Core.{Core}
-use Rattle.state.specs.View.{placeAt, look}
+use Rattle.state.specs.View.{freePlaces, look}
 use Rattle.state.specs.Soundness.{soundOf}
-use Rattle.state.proofs.LookLaws.{shows-look}
+use Rattle.state.proofs.LookLaws.{low-look, free-look}
 use Rattle.state.proofs.SoundLaws.{sound-look}
 use Rattle.state.proofs.RoomLaws.{sound-whole}
 use Rattle.store.specs.Arrays.{withFrame}
@@ -37,10 +36,10 @@ use Rattle.store.proofs.AcceptedLook.{acceptedLook, framed, kept, sent-look}
 use Rattle.store.proofs.Supplied.{storable-fits, storable-goes, sends-keeps, keeping-sized}
 use Rattle.steps.specs.declared.Sending.{Sending}
 use Rattle.steps.specs.Checks.{windowOpen, sendChecks}
-use Rattle.steps.specs.Sending.{freePlaces, frameLength, refusedSend, ownAccepting, sendingOwn, sendingChecked, sendingOf}
+use Rattle.steps.specs.Sending.{frameLength, refusedSend, ownAccepting, sendingOwn, sendingChecked, sendingOf}
 use Rattle.steps.specs.Means.{Shaped, ownFrame, sentAs}
 use Rattle.steps.proofs.AckLaws.{part-units, take-units}
-use Rattle.steps.proofs.ChecksLook.{full-look, low-look}
+use Rattle.steps.proofs.ChecksLook.{full-look}
 use Rattle.rules.proofs.DecideLaws.{decide-answer, decide-map}
 use Rattle.steps.proofs.PlaceLook.{Taking, taking}
 
@@ -74,13 +73,9 @@ module _ (c : Core) (acks bytes frames : List ℕ) (Z : Shaped c acks bytes fram
 
   -- ---- the message, and its frame
 
-  free-places : freePlaces c ≡ free s
-  unfolding freePlaces free look
-  free-places = ap (λ (x : ℕ). 4 * c .w * c .n - x) (sym (taken-length (placeAt c acks bytes) (c .n) (c .order) s (shows-look c acks bytes frames)))
-
   own-frame : c .n ≤ 8 → ownFrame c (freePlaces c) d ≡ framed q
   unfolding ownFrame outgoing look
-  own-frame most = rw (take-units (c .n) (c .req) (omega (arith, Z .sized .req)), free-places)
+  own-frame most = rw (take-units (c .n) (c .req) (omega (arith, Z .sized .req)), free-look c acks bytes frames)
 
   frame-length : Sound s → frameLength c (length d) ≡ length (framed q)
   unfolding frameLength outgoing look
@@ -109,7 +104,7 @@ module _ (c : Core) (acks bytes frames : List ℕ) (Z : Shaped c acks bytes fram
           src = sym (T .sender);
           seq = refl;
           ack = sym (part-units (c .n) (c .req));
-          buf = sym free-places;
+          buf = sym (free-look c acks bytes frames);
           bytes = refl;
           count = Z .sized .req;
           long = refl;

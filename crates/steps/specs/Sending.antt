@@ -1,11 +1,11 @@
 -- What a send gives: its answer, the unit's next numbers, and what is to be written.
 use mathlib.Core.Bool.{cond}
 use mathlib.Core.List.{List}
-use Prim.Native.Nat.{ℕ, _+_, _-_, _*_}
+use Prim.Native.Nat.{ℕ, _+_, _*_}
 use lib.Dec.{eqb}
-use Rattle.lists.specs.Order.{total}
 use Rattle.state.specs.declared.Core.{Core}
 use Rattle.state.specs.Soundness.{soundOf}
+use Rattle.state.specs.View.{freePlaces}
 use Rattle.store.specs.declared.Accepting.{Accepting}
 use Rattle.store.specs.declared.Next.{Next}
 use Rattle.store.specs.Store.{keptSlot, keepingOf, storedOf}
@@ -13,10 +13,6 @@ use Rattle.steps.specs.declared.Sending.{Sending}
 use Rattle.rules.specs.Calls.{answerOf}
 use Rattle.steps.specs.Checks.{sendChecks}
 use Rattle.steps.specs.Arrival.{freePlace}
-
--- BUF: the free places
-unfoldable pub freePlaces : Core → ℕ
-freePlaces c = 4 * c .w * c .n - total (c .order)
 
 unfoldable pub frameLength : Core → ℕ → ℕ
 frameLength c len = 37 + 4 * c .n + len

@@ -14,13 +14,7 @@ ghost use Rattle.steps.specs.Checks.{namesOther, asksWrongly, resendFrom
 fn names_other(c: Core, f: Frame) -> bool
     ensures { λ r. ⌜ r ≡ namesOther c f ⌝ }
 {
-    if f.lsrc < 1 {
-        return false;
-    }
-    if (c.n as u32) < f.lsrc {
-        return false;
-    }
-    f.lsrc != f.src
+    state::is_unit(c.n, f.lsrc) && f.lsrc != f.src
 }
 
 fn asks_wrongly(c: Core, f: Frame) -> bool
@@ -40,7 +34,7 @@ fn asks_wrongly(c: Core, f: Frame) -> bool
 fn first(c: Core, f: Frame) -> u32
     ensures { λ r. ⌜ r ≡ resendFrom c f ⌝ }
 {
-    tables::larger(tables::at(&f.ack, c.me), state::own_low(c))
+    tables::larger(tables::at(&f.ack, c.me), state::own_low(&c.al, c.me, c.n))
 }
 
 fn answer(c: Core, f: Frame) -> u32

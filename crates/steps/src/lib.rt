@@ -58,13 +58,7 @@ fn passed(answer: u32, first: u32, last: u32, c: Core) -> Arrival
 fn of_group(c: Core, f: Frame) -> bool
     ensures { λ r. ⌜ r ≡ ofGroup c f ⌝ }
 {
-    if f.n != c.n as usize {
-        return false;
-    }
-    if f.src < 1 {
-        return false;
-    }
-    f.src <= c.n as u32
+    f.n == c.n as usize && state::is_unit(c.n, f.src)
 }
 
 // The bytes s arrive.

@@ -2,7 +2,6 @@
 use crate::Sending;
 use crate::place;
 use crate::refused;
-use lists;
 use state;
 use state::Core;
 use store;
@@ -12,7 +11,7 @@ ghost use mathlib.Core.Path.{_≡_};
 ghost use Prim.Native.Nat.{_≤_};
 ghost use Rattle.rules.specs.Calls.{answerOf};
 ghost use Rattle.steps.specs.Checks.{Ranged, windowOpen, sendChecks};
-ghost use Rattle.steps.specs.Sending.{freePlaces, sendingOwn, sendingChecked};
+ghost use Rattle.steps.specs.Sending.{sendingOwn, sendingChecked};
 
 // SEQ is inside the window; the sum may pass 32 bits.
 fn window_open(c: Core) -> bool
@@ -21,7 +20,7 @@ fn window_open(c: Core) -> bool
 {
     let share = tables::least_of(&c.buf, c.n) / (c.n as u32);
     let ahead = tables::lesser(c.w as u32, share);
-    (c.seq as u64) < (state::own_low(c) as u64) + (ahead as u64)
+    (c.seq as u64) < (state::own_low(&c.al, c.me, c.n) as u64) + (ahead as u64)
 }
 
 fn answer(c: Core, len: usize, room: usize) -> u32
@@ -46,41 +45,27 @@ fn answer(c: Core, len: usize, room: usize) -> u32
     0
 }
 
-// The number of free places.
-fn free_places(c: Core) -> u16
-    requires { ⌜ Ranged c ⌝ }
-    ensures { λ r. ⌜ r ≡ freePlaces c ⌝ }
-{
-    let order = c.order;
-    let taken = lists::taken(order);
-    let all = 4 * (c.w as usize) * (c.n as usize);
-    if all < taken {
-        return 0;
-    }
-    (all - taken) as u16
-}
-
 // The frame is kept, and its message stored at the first free place.
 fn kept(c: Core, len: usize) -> Sending
     requires { ⌜ Ranged c × (len ≤ 48) ⌝ }
     ensures { λ r. ⌜ r ≡ sendingOwn c len ⌝ }
 {
     let ack = c.req;
-    let buf = free_places(c);
+    let buf = state::free_places(c);
     let place = place::first_free(c, c.me);
     let next = store::keeping(c, (37 + 4 * (c.n as usize) + len) as u8);
     let m = Accepting {
         place,
         seq: c.seq,
         ack,
-        buf: buf as u32,
+        buf,
         len: len as u8,
     };
     let s = store::stored(next, m);
     let core = s.core;
     Sending {
         answer: 0,
-        buf,
+        buf: buf as u16,
         slot: store::kept_slot(c),
         place,
         gone: s.gone,

@@ -2,7 +2,6 @@
 pub mod arrays;
 
 ghost use mathlib.Core.Path.{_≡_};
-ghost use Prim.Native.Nat.{_-_};
 ghost use Rattle.store.specs.Store.{keptSlot, columnStored, numbersStored, placeStored, storedOf, keepingOf, settledOf};
 use lists;
 use state::Core;
@@ -24,32 +23,25 @@ pub struct Next {
     pub core: Core,
 }
 
-// How much x is above y, 0 where it is not.
-fn above(x: u32, y: u32) -> u32
-    ensures { λ r. ⌜ r ≡ x - y ⌝ }
-{
-    if y < x { x - y } else { 0 }
-}
-
 // The slot of the frame to keep next.
 pub fn kept_slot(c: Core) -> u32
     ensures { λ r. ⌜ r ≡ keptSlot c ⌝ }
 {
-    above(c.seq, own_low(c))
+    tables::above(c.seq, own_low(&c.al, c.me, c.n))
 }
 
 // With column j of AL; kept lengths start at minAL of the own index.
 fn column_stored(c: Core, j: u8, ack: [u32; 8]) -> Next
     ensures { λ r. ⌜ r ≡ columnStored c j ack ⌝ }
 {
-    let old = own_low(c);
-    let mut d = c;
     let al = c.al;
+    let old = own_low(&al, c.me, c.n);
     let new = tables::with_column(al, j, &ack);
-    d.al = new;
-    let gone = above(own_low(d), old);
+    let gone = tables::above(own_low(&new, c.me, c.n), old);
     let mut kept = c.kept;
     arrays::move_down(&mut kept, gone as usize);
+    let mut d = c;
+    d.al = new;
     d.kept = kept;
     Next { gone, core: d }
 }

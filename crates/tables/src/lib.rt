@@ -33,6 +33,13 @@ pub fn before(x: u8) -> u8
     if 0 < x { x - 1 } else { 0 }
 }
 
+// How much x is above y, 0 where it is not.
+pub fn above(x: u32, y: u32) -> u32
+    ensures { λ r. ⌜ r ≡ x - y ⌝ }
+{
+    if y < x { x - y } else { 0 }
+}
+
 // Number i of a list, 0 past its end.
 pub fn get(a: &[u32], i: usize) -> u32
     ensures { λ r. ⌜ r ≡ getD (now (a .entry)) i 0 ⌝ }

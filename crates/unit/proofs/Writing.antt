@@ -18,7 +18,7 @@ use Rattle.state.specs.declared.Core.{Core}
 use Rattle.state.specs.Soundness.{soundOf}
 use Rattle.frame.specs.Frame.{payloadOf}
 use Rattle.framewrite.specs.Writing.{messageOf, dataWritten, Wrote}
-use Rattle.handing.proofs.Answers.{sound-ranges}
+use Rattle.state.proofs.RoomLaws.{sound-ranges}
 use Rattle.store.specs.Arrays.{withAck, withText, withFrame, withoutFrames}
 use Rattle.store.specs.Store.{settledOf}
 use Rattle.steps.specs.declared.Arrival.{Arrival}

@@ -57,17 +57,17 @@ pub struct Taken {
 
 impl Unit {
     // Units of a group.
-    pub const LEAST_UNITS: usize = 2;
+    pub const LEAST_UNITS: usize = state::LEAST_UNITS;
 
-    pub const MOST_UNITS: usize = 8;
+    pub const MOST_UNITS: usize = state::MOST_UNITS;
 
     // The window.
-    pub const LEAST_WINDOW: usize = 2;
+    pub const LEAST_WINDOW: usize = state::LEAST_WINDOW;
 
-    pub const MOST_WINDOW: usize = 4;
+    pub const MOST_WINDOW: usize = state::MOST_WINDOW;
 
     // Bytes of data; no data is allowed.
-    pub const MOST_DATA: usize = 48;
+    pub const MOST_DATA: usize = state::MOST_DATA;
 
     // 4W places for each sender, at the widest.
     pub const PLACES: usize = 4 * Self::MOST_WINDOW * Self::MOST_UNITS;
@@ -161,9 +161,7 @@ impl Unit {
         ensures { λ r. ⌜ Copies self x (now (out .entry)) r (now (out .exit)) ⌝ }
     {
         let c = self.core;
-        // a copy, since two arrays of one unit cannot be lent to one call
-        let acks = self.acks;
-        handing::copying(c, &acks, &self.frames, x, out)
+        handing::copying(c, &self.acks, &self.frames, x, out)
     }
 
     // Takes the oldest confirmed message: its data stand at the front of the output. Refusals: 1, 18, 16.
@@ -171,9 +169,7 @@ impl Unit {
         ensures { λ r. ⌜ Takes self (now (out .entry)) r (now (out .exit)) ⌝ }
     {
         let c = self.core;
-        // a copy, as in `copy`
-        let acks = self.acks;
-        let t = handing::taking(c, &acks, &self.bytes, out);
+        let t = handing::taking(c, &self.acks, &self.bytes, out);
         let rest = t.core;
         self.core = rest;
         Taken {

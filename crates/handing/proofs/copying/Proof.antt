@@ -22,10 +22,10 @@ own-low-requires : tie.Need-own-low-requires
 own-low-requires c κs = search needs
 
 returns-2 : tie.Need-returns-2
-returns-2 c = copying-before _ _ _ _ _ (is-sound (c .before .before)) (omega arith)
+returns-2 c = copying-before _ _ _ _ _ (is-sound (c .before .before .before .before .before)) (omega arith)
 
 returns-3 : tie.Need-returns-3
-returns-3 c = copying-after _ _ _ _ _ (is-sound (c .before .before .before)) (omega arith) (c .if3 .taken)
+returns-3 c = copying-after _ _ _ _ _ (is-sound (c .before .before .before .before .before .before)) (omega arith) (c .if3 .taken)
 
 cast-slot : tie.Need-cast-slot
 cast-slot c = search needs
@@ -39,7 +39,7 @@ cast-len c = search needs
 returns-4 : tie.Need-returns-4
 returns-4 c =
     let before-seq = c .before .before .before .before .before in
-    copying-16 _ _ _ _ _ (is-sound (before-seq .before .before .before)) (omega arith) (before-seq .if3 .left) _ (omega arith) _ (c .before .byte .ensures) (c .if4 .taken)
+    copying-16 _ _ _ _ _ (is-sound (before-seq .before .before .before .before .before .before)) (omega arith) (before-seq .if3 .left) _ (omega arith) _ (c .before .byte .ensures) (c .if4 .taken)
 
 mul-put-part : tie.Need-mul-put-part
 mul-put-part c = search needs
@@ -54,7 +54,7 @@ returns-5 : tie.Need-returns-5
 returns-5 c =
     let fits = c .before .before .before .before in
     let before-seq = fits .before .before .before .before .before in
-    copying-0 _ _ _ _ _ (is-sound (before-seq .before .before .before)) (omega arith) (before-seq .if3 .left) _ (omega arith) _ (fits .before .byte .ensures) (fits .if4 .left) _ (c .before .before .put-part .ensures)
+    copying-0 _ _ _ _ _ (is-sound (before-seq .before .before .before .before .before .before)) (omega arith) (before-seq .if3 .left) _ (omega arith) _ (fits .before .byte .ensures) (fits .if4 .left) _ (c .before .before .put-part .ensures)
 
 pub copying-spec : {M : Type 1} → statement M
 copying-spec =

@@ -1,10 +1,6 @@
 -- `own_low` meets its contract.
 use borrow.Author.Needs.{needs}
-use mathlib.Core.List.{List}
-use mathlib.Core.Path.{ap, _∙_}
-use Prim.Native.Nat.{ℕ}
-use Rattle.rules.specs.Maps.{at, least}
-use Rattle.state.specs.Soundness.{ownLow}
+use Rattle.state.specs.Soundness.{lowIn}
 use Rattle.state.proofs.own_low.Statement.{statement}
 use Rattle.state.proofs.own_low.Tie as tie
 
@@ -15,10 +11,8 @@ least-of-requires : tie.Need-least-of-requires
 least-of-requires c κs = search needs
 
 returns : tie.Need-returns
-unfolding ownLow
-returns c =
-    let s = c .before .before .before .before .before .args in
-    c .least-of .ensures ∙ ap (λ (l : List ℕ). least (s .t1 .n) (at l)) (c .before .row .ensures)
+unfolding lowIn
+returns c = rw (← c .before .row .ensures) (c .least-of .ensures)
 
 pub own-low-spec : {M : Type 1} → statement M
 own-low-spec = tie.close (tie.spec row-requires least-of-requires returns)

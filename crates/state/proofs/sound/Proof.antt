@@ -45,24 +45,24 @@ returns-4 : tie.Need-returns-4
 unfolding soundOf
 returns-4 c =
     let window = c .before in
-    let own = window .before .before .before .before in
+    let own = window .before .before .before .before .before .before .before in
     let nexts = own .before .before .before .before .before in
     let ranges = nexts .before .before .before .before .before .before .before .before .before .before .before in
-    rw (← ranges .ranges-fit .ensures, not-false (ranges .ranges-fit .result) (nexts .before .before .before .before .before .before .before .before .before .before .if1 .left), ← nexts .nexts-fit .ensures, not-false (nexts .nexts-fit .result) (own .before .before .before .before .if2 .left), ← own .at .ensures, eq-eqb _ _ (window .before .before .before .if3 .left), ← window .before .own-low .ensures, ← window .window-fits .ensures, not-true (window .window-fits .result) (c .if4 .taken))
+    rw (← ranges .ranges-fit .ensures, not-false (ranges .ranges-fit .result) (nexts .before .before .before .before .before .before .before .before .before .before .if1 .left), ← nexts .nexts-fit .ensures, not-false (nexts .nexts-fit .result) (own .before .before .before .before .if2 .left), ← own .at .ensures, eq-eqb _ _ (window .before .before .before .before .before .before .if3 .left), ← window .before .own-low .ensures, ← window .window-fits .ensures, not-true (window .window-fits .result) (c .if4 .taken))
 
 places-fit-requires : tie.Need-places-fit-requires
 places-fit-requires c κs =
-    let nexts = c .before .before .before .before .before .before .before .before .before .before .before .before .before .before .before .before in
+    let nexts = c .before .before .before .before .before .before .before .before .before .before .before .before .before .before .before .before .before .before .before in
     rangesFit-facts _ _ _ (sym (nexts .before .before .before .before .before .before .before .before .before .before .before .ranges-fit .ensures) ∙ not-false _ (nexts .before .before .before .before .before .before .before .before .before .before .if1 .left)) .n-high
 
 returns-5 : tie.Need-returns-5
 unfolding soundOf
 returns-5 c =
     let window = c .before .before .before .before .before .before .before .before in
-    let own = window .before .before .before .before in
+    let own = window .before .before .before .before .before .before .before in
     let nexts = own .before .before .before .before .before in
     let ranges = nexts .before .before .before .before .before .before .before .before .before .before .before in
-    rw (← ranges .ranges-fit .ensures, not-false (ranges .ranges-fit .result) (nexts .before .before .before .before .before .before .before .before .before .before .if1 .left), ← nexts .nexts-fit .ensures, not-false (nexts .nexts-fit .result) (own .before .before .before .before .if2 .left), ← own .at .ensures, eq-eqb _ _ (window .before .before .before .if3 .left), ← window .before .own-low .ensures, ← window .window-fits .ensures, not-false (window .window-fits .result) (c .before .before .before .before .before .before .before .if4 .left)) (c .places-fit .ensures)
+    rw (← ranges .ranges-fit .ensures, not-false (ranges .ranges-fit .result) (nexts .before .before .before .before .before .before .before .before .before .before .if1 .left), ← nexts .nexts-fit .ensures, not-false (nexts .nexts-fit .result) (own .before .before .before .before .if2 .left), ← own .at .ensures, eq-eqb _ _ (window .before .before .before .before .before .before .if3 .left), ← window .before .own-low .ensures, ← window .window-fits .ensures, not-false (window .window-fits .result) (c .before .before .before .before .before .before .before .if4 .left)) (c .places-fit .ensures)
 
 pub sound-spec : {M : Type 1} → statement M
 sound-spec =

@@ -13,14 +13,11 @@ own-low-requires c κs = search needs
 whole-requires : tie.Need-whole-requires
 whole-requires c κs = search needs
 
-cast-above : tie.Need-cast-above
-cast-above c = search needs
-
-cast-above-2 : tie.Need-cast-above-2
-cast-above-2 c = search needs
-
 above-requires : tie.Need-above-requires
 above-requires c κs = search needs
+
+cast-shown : tie.Need-cast-shown
+cast-shown c = search needs
 
 shown-requires : tie.Need-shown-requires
 shown-requires c κs = search needs
@@ -28,8 +25,9 @@ shown-requires c κs = search needs
 returns : tie.Need-returns
 unfolding keptNumbersIn
 returns c =
-    let a = c .before .before .before .before .before .before .args in
-    look-shown (wholeChecks (a .c) (a .acks .now)) refl _ _ _ _ _ (c .before .before .before .whole .ensures) (c .before .before .before .before .own-low .ensures) (omega arith) (c .shown .ensures)
+    let low = c .before .before .before in
+    let a = low .before .before .before .before .before .args in
+    look-shown (wholeChecks (a .t1) (a .acks .now)) refl _ _ _ _ _ (c .before .before .whole .ensures) (low .own-low .ensures) (omega arith) (c .shown .ensures)
 
 pub kept-numbers-spec : {M : Type 1} → statement M
 kept-numbers-spec =
@@ -37,8 +35,7 @@ kept-numbers-spec =
     (tie.spec
     own-low-requires
     whole-requires
-    cast-above
-    cast-above-2
     above-requires
+    cast-shown
     shown-requires
     returns)

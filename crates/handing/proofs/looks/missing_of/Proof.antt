@@ -16,14 +16,11 @@ at-requires-2 c κs = search needs
 of-unit-requires : tie.Need-of-unit-requires
 of-unit-requires c κs = search needs
 
-cast-above : tie.Need-cast-above
-cast-above c = search needs
-
-cast-above-2 : tie.Need-cast-above-2
-cast-above-2 c = search needs
-
 above-requires : tie.Need-above-requires
 above-requires c κs = search needs
+
+cast-shown : tie.Need-cast-shown
+cast-shown c = search needs
 
 shown-requires : tie.Need-shown-requires
 shown-requires c κs = search needs
@@ -41,8 +38,7 @@ missing-of-spec =
     at-requires
     at-requires-2
     of-unit-requires
-    cast-above
-    cast-above-2
     above-requires
+    cast-shown
     shown-requires
     returns)

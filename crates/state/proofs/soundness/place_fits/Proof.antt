@@ -72,6 +72,9 @@ returns-4 c =
 byte-requires : tie.Need-byte-requires
 byte-requires c κs = search needs
 
+cast-result : tie.Need-cast-result
+cast-result c = search needs
+
 returns-5 : tie.Need-returns-5
 unfolding placeOf
 returns-5 c =
@@ -100,4 +103,5 @@ place-fits-spec =
     none-zero-requires
     returns-4
     byte-requires
+    cast-result
     returns-5)

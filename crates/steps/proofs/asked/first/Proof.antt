@@ -15,7 +15,7 @@ larger-requires c κs = search needs
 
 returns : tie.Need-returns
 unfolding resendFrom
-returns c = rw (← c .before .before .at .ensures, ← c .before .own-low .ensures) (c .larger .ensures)
+returns c = rw (← c .before .before .before .before .before .at .ensures, ← c .before .own-low .ensures) (c .larger .ensures)
 
 pub first-spec : {M : Type 1} → statement M
 first-spec = tie.close (tie.spec at-requires own-low-requires larger-requires returns)

@@ -1,4 +1,7 @@
 -- `kept` meets its contract.
+use native.Mathlib.Omega.{arith}
+use Rattle.state.specs.View.{freePlaces}
+use Rattle.steps.proofs.RangeLaws.{places-few}
 use Rattle.steps.specs.Sending.{sendingOwn, frameLength}
 use borrow.Author.Needs.{needs}
 use Rattle.steps.proofs.own.kept.Statement.{statement}
@@ -28,14 +31,15 @@ cast-keeping-2 c = search needs
 keeping-requires : tie.Need-keeping-requires
 keeping-requires c κs = search needs
 
-cast-t15 : tie.Need-cast-t15
-cast-t15 c = search needs
-
 cast-t14 : tie.Need-cast-t14
 cast-t14 c = search needs
 
 stored-requires : tie.Need-stored-requires
 stored-requires c κs = search needs
+
+cast-t15 : tie.Need-cast-t15
+unfolding freePlaces
+cast-t15 c = omega (arith, places-few (c .before .before .before .before .before .before .before .args .c) (c .before .before .before .before .before .before .before .pre .0), c .before .before .before .before .before .free-places .ensures)
 
 kept-slot-requires : tie.Need-kept-slot-requires
 kept-slot-requires c κs = search needs
@@ -56,8 +60,8 @@ kept-spec =
     add-keeping-2
     cast-keeping-2
     keeping-requires
-    cast-t15
     cast-t14
     stored-requires
+    cast-t15
     kept-slot-requires
     returns)

@@ -36,7 +36,7 @@ add-result c = search needs
 
 returns : tie.Need-returns
 unfolding windowOpen
-returns c = rw (← c .own-low .ensures, ← c .before .before .least-of .ensures, ← c .before .lesser .ensures)
+returns c = rw (← c .own-low .ensures, ← c .before .before .before .before .before .least-of .ensures, ← c .before .before .before .before .lesser .ensures)
 
 pub window-open-spec : {M : Type 1} → statement M
 window-open-spec =

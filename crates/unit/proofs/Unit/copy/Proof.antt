@@ -4,9 +4,6 @@ use Rattle.unit.proofs.Means.{copies-kept}
 use Rattle.unit.proofs.Unit.copy.Statement.{statement}
 use Rattle.unit.proofs.Unit.copy.Tie as tie
 
-slice-aggregate-copying : tie.Need-slice-aggregate-copying
-slice-aggregate-copying c = search needs
-
 copying-requires : tie.Need-copying-requires
 copying-requires c κs = search needs
 
@@ -19,4 +16,4 @@ returns c =
     copies-kept (c .before .before .before .before .before .before .before .before .before .before .before .args .t1) _ _ _ _ (given .result) (given .output)
 
 pub copy-spec : {M : Type 1} → statement M
-copy-spec = tie.close (tie.spec slice-aggregate-copying copying-requires same-length returns)
+copy-spec = tie.close (tie.spec copying-requires same-length returns)

@@ -7,9 +7,6 @@ use Rattle.unit.proofs.Shape.{shaped}
 use Rattle.unit.proofs.Unit.take.Statement.{statement}
 use Rattle.unit.proofs.Unit.take.Tie as tie
 
-slice-aggregate-taking : tie.Need-slice-aggregate-taking
-slice-aggregate-taking c = search needs
-
 taking-requires : tie.Need-taking-requires
 taking-requires c κs = search needs
 
@@ -25,4 +22,4 @@ returns c =
     takes-message u (shaped u _ (start .good .0 .1 .1) .sized .list) (start .args .out .now) _ _ (ap (takenFrom u) (given .result)) (given .output)
 
 pub take-spec : {M : Type 1} → statement M
-take-spec = tie.close (tie.spec slice-aggregate-taking taking-requires same-length returns)
+take-spec = tie.close (tie.spec taking-requires same-length returns)

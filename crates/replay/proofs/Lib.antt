@@ -1,0 +1,4 @@
+-- What the proofs of a replay share.
+pub mod ChangeLaws
+pub mod CallLaws
+pub mod RunLaws

@@ -1,0 +1,25 @@
+-- `changes::put` meets its contract: past the end nothing is stored, and `set` changes nothing.
+use borrow.Author.Needs.{needs}
+use native.Mathlib.Omega.{arith}
+use mathlib.Core.Path.{sym}
+use lib.Seq.{set-out}
+use Rattle.replay.proofs.changes.put.Statement.{statement}
+use Rattle.replay.proofs.changes.put.Tie as tie
+
+mul-d : tie.Need-mul-d
+mul-d c = search needs
+
+slice-write-d : tie.Need-slice-write-d
+slice-write-d c = search needs
+
+same-length : tie.Need-same-length
+same-length c = search needs
+
+returns : tie.Need-returns
+returns c = search needs
+
+returns-2 : tie.Need-returns-2
+returns-2 c = let a = c .before .args in sym (set-out (a .d .now) (a .at) (a .x) (omega arith))
+
+pub put-spec : {M : Type 1} → statement M
+put-spec = tie.close (tie.spec mul-d slice-write-d same-length returns returns-2)

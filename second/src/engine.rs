@@ -2,6 +2,7 @@
 
 mod arrival;
 mod delivery;
+mod looks;
 mod refusal;
 mod soundness;
 
@@ -10,6 +11,7 @@ use std::collections::VecDeque;
 use std::ops::RangeInclusive;
 
 pub use arrival::Arrival;
+pub use looks::Look;
 pub use refusal::Refusal;
 
 pub const WINDOWS: RangeInclusive<usize> = 2..=4;
@@ -30,7 +32,8 @@ pub struct Taken {
 }
 
 /// Units count from 1, vectors from 0: what belongs to unit k stands at k - 1, and `al[k - 1][j - 1]` is AL_kj.
-/// A message holds one of its sender's places for as long as it stands in a list.
+/// Of each vector the first n numbers count. A message holds one of its sender's places for as long as it stands in
+/// a list.
 #[derive(Clone, Debug, Default, PartialEq, Eq)]
 pub struct Unit {
     pub own: usize,
@@ -48,6 +51,8 @@ pub struct Unit {
     pub waiting: Vec<VecDeque<Message>>,
     pub ordered: Vec<Message>,
     pub confirmed: VecDeque<Message>,
+    /// Whether two messages hold one place, which no call brings about.
+    pub doubled: bool,
 }
 
 impl Unit {
@@ -91,6 +96,7 @@ impl Unit {
             waiting: vec![VecDeque::new(); size],
             ordered: Vec::new(),
             confirmed: VecDeque::new(),
+            doubled: false,
         }
     }
 
@@ -113,7 +119,7 @@ impl Unit {
             cid: self.cid,
             src: self.own as u8,
             seq: self.seq,
-            ack: self.req.clone(),
+            ack: self.req[..self.size].to_vec(),
             buf: self.free_places() as u16,
             data,
         };
@@ -138,7 +144,7 @@ impl Unit {
         let request = Request {
             cid: self.cid,
             src: self.own as u8,
-            ack: self.req.clone(),
+            ack: self.req[..self.size].to_vec(),
             lsrc: about as u8,
             lseq: self.heard[about - 1],
         };
@@ -164,11 +170,11 @@ impl Unit {
     }
 
     pub fn min_al(&self, k: usize) -> u32 {
-        least(&self.al[k - 1])
+        least(&self.al[k - 1][..self.size])
     }
 
     pub fn min_pal(&self, k: usize) -> u32 {
-        least(&self.pal[k - 1])
+        least(&self.pal[k - 1][..self.size])
     }
 
     pub fn places_taken_by(&self, sender: usize) -> usize {
@@ -192,7 +198,7 @@ impl Unit {
     }
 
     pub fn window_is_open(&self) -> bool {
-        let least_buf = self.buf.iter().min().map_or(0, |&buf| usize::from(buf));
+        let least_buf = self.buf[..self.size].iter().min().map_or(0, |&buf| usize::from(buf));
         let width = self.window.min(least_buf / self.size);
         u64::from(self.seq) < u64::from(self.min_al(self.own)) + width as u64
     }

@@ -1,8 +1,8 @@
 //! Bytes to try frame readers on: lawful frames, each damaged in one place, and noise.
 
-mod damage;
+pub(crate) mod damage;
 mod lawful;
-mod noise;
+pub(crate) mod noise;
 
 use crate::random::Random;
 

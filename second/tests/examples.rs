@@ -39,7 +39,10 @@ fn lost_frame_is_resent_and_everything_said_is_taken() {
     assert_eq!(refusals(&steps), [("A 3 2", 9)]);
     assert_eq!(steps[6], ("A 1 3".to_owned(), Outcome::Resend { first: 1, last: 2 }));
     for unit in 1..=3 {
-        assert_eq!(taken_by(unit, &steps), ["north-edge-2m", "gate-closed", "ditch-added", "corner-moved"]);
+        assert_eq!(
+            taken_by(unit, &steps),
+            ["north-edge-2m", "gate-closed", "ditch-added", "corner-moved"]
+        );
     }
 }
 

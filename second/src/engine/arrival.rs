@@ -89,7 +89,7 @@ impl Unit {
 
     fn hear_of(&mut self, data: &Data) {
         let j = usize::from(data.src) - 1;
-        for (k, heard) in self.heard.iter_mut().enumerate() {
+        for (k, heard) in self.heard.iter_mut().enumerate().take(self.size) {
             let next = if k == j { data.seq + 1 } else { data.ack[k] };
             *heard = next.max(*heard);
         }

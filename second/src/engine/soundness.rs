@@ -5,11 +5,15 @@ use crate::frames::{GROUP_SIZES, LONGEST_FRAME, MOST_DATA, SENDABLE};
 
 impl Unit {
     pub fn is_sound(&self) -> bool {
+        self.keeps_the_rules() && self.has_sound_kept_frames()
+    }
+
+    /// Soundness but for the kept frames, of which the rules only say which numbers they have.
+    pub fn keeps_the_rules(&self) -> bool {
         self.is_in_range()
             && self.has_rows_for_each_unit()
             && self.has_no_zero_next()
             && self.has_sound_window()
-            && self.has_sound_kept_frames()
             && self.has_sound_places()
     }
 
@@ -21,16 +25,16 @@ impl Unit {
 
     fn has_rows_for_each_unit(&self) -> bool {
         let square = |rows: &[Vec<u32>]| {
-            rows.len() == self.size && rows.iter().all(|row| row.len() == self.size)
+            rows.len() >= self.size && rows.iter().all(|row| row.len() >= self.size)
         };
         let lengths = [self.req.len(), self.heard.len(), self.buf.len(), self.waiting.len()];
-        lengths == [self.size; 4] && square(&self.al) && square(&self.pal)
+        lengths.iter().all(|&length| length >= self.size) && square(&self.al) && square(&self.pal)
     }
 
     fn has_no_zero_next(&self) -> bool {
-        let matrices = self.al.iter().chain(&self.pal).flatten();
-        let mut nexts = self.req.iter().chain(&self.heard).chain(matrices);
-        self.seq != 0 && nexts.all(|&next| next != 0)
+        let counts = |row: &[u32]| !row[..self.size].contains(&0);
+        let mut rows = self.al[..self.size].iter().chain(&self.pal[..self.size]);
+        self.seq != 0 && counts(&self.req) && counts(&self.heard) && rows.all(|row| counts(row))
     }
 
     fn has_sound_window(&self) -> bool {
@@ -46,7 +50,8 @@ impl Unit {
     }
 
     fn has_sound_places(&self) -> bool {
-        self.stored().all(|message| self.keeps_frame_limits(message))
+        !self.doubled
+            && self.stored().all(|message| self.keeps_frame_limits(message))
             && (1..=self.size)
                 .all(|k| self.waiting[k - 1].iter().all(|message| message.sender == k))
             && (1..=self.size).all(|k| self.places_taken_by(k) <= self.places_per_sender())

@@ -3,15 +3,12 @@
 mod tally;
 
 use second::script::{self, printable};
-use second::{generate, other};
+use second::{generate, other, shares};
 use std::env;
 use std::process::ExitCode;
-use std::sync::atomic::{AtomicU64, Ordering};
-use std::thread;
 use tally::Tally;
 
 const USAGE: &str = "usage: compare PROGRAM [--scripts N] [--seed S]";
-const THREADS: usize = 2;
 
 struct Settings {
     program: String,
@@ -64,28 +61,13 @@ fn report_weakness(tally: &Tally) -> ExitCode {
 
 /// Compares script after script, up to the first difference.
 fn compare(settings: &Settings) -> Result<Tally, String> {
-    let next_index = AtomicU64::new(0);
-    thread::scope(|scope| {
-        let share = || compare_share(settings, &next_index);
-        let shares = [(); THREADS].map(|()| scope.spawn(share));
-        let joined = shares.map(|share| share.join().expect("no share panics"));
-        joined.into_iter().try_fold(Tally::default(), |sum, share| Ok(sum.plus(share?)))
-    })
-}
-
-fn compare_share(settings: &Settings, next_index: &AtomicU64) -> Result<Tally, String> {
-    let mut tally = Tally::default();
-    loop {
-        let index = next_index.fetch_add(1, Ordering::Relaxed);
-        if index >= settings.scripts {
-            return Ok(tally);
-        }
+    let shares = shares::each(settings.scripts, |index, tally| {
         let script = generate::script(settings.seed, index);
-        if let Err(difference) = compare_one(&settings.program, &script, &mut tally) {
-            next_index.store(settings.scripts, Ordering::Relaxed);
-            return Err(format!("script {index} of seed {} differs\n{difference}", settings.seed));
-        }
-    }
+        compare_one(&settings.program, &script, tally).map_err(|difference| {
+            format!("script {index} of seed {} differs\n{difference}", settings.seed)
+        })
+    })?;
+    Ok(shares.into_iter().fold(Tally::default(), Tally::plus))
 }
 
 fn compare_one(program: &str, script: &[u8], tally: &mut Tally) -> Result<(), String> {

@@ -1,11 +1,32 @@
-# C programs over the archives of `rt staticlib`, which are for x86-64. On another processor they are compiled by clang
-# against the kit's own C library and run under the kit's emulator; the sanitizers have no runtime there.
+# Programs and archives that `rt` builds are for x86-64. On another processor programs run under the kit's emulator, and C
+# programs over the archives are compiled by clang against the kit's own C library; the sanitizers have no runtime there.
 
 kit=$(dirname "$(dirname "$(rt doc)")")
 tools=$kit/on/$(uname -m)/toolchain
 
 native() {
     [ "$(uname -m)" = x86_64 ]
+}
+
+# proved NAME: a program, proved and built; where it is not proved, says why
+proved() {
+    local log status=0
+    log=$(mktemp)
+    rt check "$1" >"$log" 2>&1 || status=$?
+    [ "$status" -eq 0 ] || cat "$log" >&2
+    rm "$log"
+    return "$status"
+}
+
+# runnable NAME DIR: prints a path that runs target/bin/NAME; on another processor it is a script in DIR
+runnable() {
+    local program=target/bin/$1
+    if ! native; then
+        program=$2/$1
+        printf '#!/usr/bin/env bash\ncd %q && . tests/lib/x86.sh && c_run target/bin/%s\n' "$PWD" "$1" >"$program"
+        chmod +x "$program"
+    fi
+    echo "$program"
 }
 
 # archive NAME: the archive of a crate, built unless it is newer than every source; prints its path

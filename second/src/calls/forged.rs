@@ -11,6 +11,9 @@ impl Caller {
         let Some(slot) = self.some_sound_member() else { return self.aimless() };
         let frame = self.forged_frame(&self.unit(slot).clone());
         self.arrive(slot, &frame);
+        if self.random.one_in(5) {
+            self.observe(slot);
+        }
     }
 
     pub fn spoiled(&mut self) {

@@ -41,7 +41,7 @@ impl Manner {
             ..Manner::default()
         };
         let short = Manner { episodes: 2, calls: 150, aimless: 10, ..talk.clone() };
-        let alone = Manner { alone: true, forged: 70, calls: 200, ..short.clone() };
+        let alone = Manner { alone: true, forged: 70, calls: 220, ..short.clone() };
         match kind % 10 {
             0 => talk,
             1 => Manner { late: true, ..talk },
@@ -54,7 +54,7 @@ impl Manner {
             5 => Manner { hoarding: true, late: true, ..alone },
             6 => Manner { forged: 10, spoiled: 25, loss: 10, ..short },
             7 => Manner { broken: 6, calls: 60 * size + 250, ..talk },
-            8 => Manner { odd: 12, forged: 55, calls: 300, ..alone },
+            8 => Manner { odd: 12, forged: 55, calls: 350, ..alone },
             _ => Manner { odd: 4, forged: 20, spoiled: 4, broken: 2, late: true, ..short },
         }
     }

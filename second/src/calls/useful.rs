@@ -148,6 +148,14 @@ impl Caller {
         self.aimless_call(slot);
     }
 
+    /// Looks at a unit, so that a change is seen soon.
+    pub fn observe(&mut self, slot: usize) {
+        let k = self.random.between(1, self.size) as u8;
+        let looks = [Call::Ready, Call::Kept, Call::Missing(k), Call::Waiting(k), Call::Waiting(k)];
+        let look = &looks[self.random.below(looks.len())];
+        self.call(slot, look, 0);
+    }
+
     /// Any call but an opening and a setting.
     pub fn aimless_call(&mut self, slot: usize) {
         let any_k = self.random.byte();

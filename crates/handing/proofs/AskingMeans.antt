@@ -2,13 +2,12 @@
 use mathlib.Core.Bool.{true, false, not, _||_}
 use mathlib.Core.List.{List}
 use mathlib.Core.Path.{_≡_, refl, sym, ap, _∙_}
-use Prim.Native.Nat.{ℕ, _+_, _*_, _≤_}
+use Prim.Native.Nat.{ℕ, _+_, _*_}
 use native.Mathlib.Omega.{arith}
-use native.Mathlib.Nat.{zero-add}
 use lib.Dec.{eqb}
-use lib.ListN.{length, getD, take}
+use lib.ListN.{length}
 use borrow.Author.Tests.{not-false}
-use Rattle.rules.specs.Maps.{between, at, units, listed}
+use Rattle.rules.specs.Maps.{between, at, units}
 use Rattle.rules.specs.Message.{request, encode}
 use Rattle.rules.specs.State.{State}
 use Rattle.rules.specs.Steps.{asking}
@@ -17,26 +16,14 @@ use Rattle.rules.proofs.AlikeLaws.{Alike, decide-alike}
 use Rattle.rules.proofs.ChecksLaws.{or-left}
 use Rattle.rules.proofs.MapsLaws.{between-low, between-high, units-in, length-listed}
 use Rattle.rules.proofs.MessageLaws.{length-request}
-use Rattle.tables.proofs.RowLaws.{at-next}
-use Rattle.tables.proofs.ListedLaws.{listed-same, take-listed}
-use Rattle.lists.proofs.EntryLaws.{listed-all}
 use Rattle.state.specs.declared.Core.{Core}
 use Rattle.state.specs.View.{look}
 use Rattle.state.specs.Soundness.{soundOf}
 use Rattle.state.proofs.SoundLaws.{sound-look}
+use Rattle.state.proofs.RoomLaws.{sound-ranges}
+use Rattle.state.proofs.UnitsLaws.{take-units}
 use Rattle.handing.specs.Handing.{requestFor, askingChecks, askingOf}
 use Rattle.handing.specs.Meant.{handedMeans}
-use Rattle.state.proofs.RoomLaws.{sound-ranges}
-
--- the first n of a row, as the units' numbers
-take-units : (n : ℕ) (l : List ℕ) → n ≤ length l → take n l ≡ listed 1 n (units n (at l))
-take-units n l h =
-    ap (take n) (sym (listed-all l))
-    ∙ take-listed 0 n (length l) (λ i. getD l i 0) h
-    ∙ listed-same 0 1 n (λ i. getD l i 0) (units n (at l)) (λ i x. sym (units-in n (at l) (1 + i) (omega arith) (omega arith) ∙ entry i))
-  where
-    entry : (i : ℕ) → at l (1 + i) ≡ getD l (0 + i) 0
-    entry i = ap (at l) (let e : 1 + i ≡ i + 1 = omega arith in e) ∙ at-next l i ∙ ap (λ (j : ℕ). getD l j 0) (sym (zero-add i))
 
 -- the number of a unit
 pub unit-number : (n k : ℕ) → between 1 n k ≡ true → (l : List ℕ) → at l k ≡ units n (at l) k

@@ -12,6 +12,7 @@ use Rattle.rules.specs.Calls.{copyChecks, copy}
 use Rattle.rules.proofs.AlikeLaws.{Alike, decide-alike}
 use Rattle.rules.proofs.MapsLaws.{and-left, and-right}
 use Rattle.tables.specs.Rows.{part}
+use Rattle.tables.proofs.ListedLaws.{length-part}
 use Rattle.state.specs.declared.Core.{Core}
 use Rattle.state.specs.View.{lowest, keptOf, look}
 use Rattle.state.specs.Soundness.{ownLow, soundOf}
@@ -20,7 +21,6 @@ use Rattle.state.proofs.RoomLaws.{sound-ranges}
 use Rattle.state.proofs.SoundLaws.{sound-look}
 use Rattle.handing.specs.Handing.{slotFor, lengthFor, copyingChecks, copyingOf}
 use Rattle.handing.specs.Meant.{handedMeans}
-use Rattle.handing.proofs.PartLaws.{length-part}
 
 module _ (c : Core) (acks bytes frames : List ℕ) where
   abbrev s : State

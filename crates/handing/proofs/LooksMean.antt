@@ -16,7 +16,7 @@ use Rattle.lists.proofs.TakenLaws.{waitingOf-is}
 use Rattle.state.specs.declared.Core.{Core}
 use Rattle.state.specs.View.{placeAt, look}
 use Rattle.state.specs.Soundness.{soundOf}
-use Rattle.state.proofs.LookLaws.{holds-look, shows-look, free-look}
+use Rattle.state.proofs.LookLaws.{holds-look, shows-look, places-look}
 use Rattle.state.proofs.RoomLaws.{sound-whole}
 use Rattle.state.proofs.SoundLaws.{sound-look}
 use Rattle.handing.specs.Looks.{wholeChecks, unitChecks, toTakeIn, freePlacesIn, keptNumbersIn, missingIn, waitingIn}
@@ -55,7 +55,7 @@ module _ (c : Core) (acks bytes frames : List ℕ) where
 
   pub free-places-means : freePlacesIn c acks ≡ freePlaces s
   unfolding freePlacesIn freePlaces
-  free-places-means = whole _ _ _ _ (λ h. (refl, free-look c acks bytes frames))
+  free-places-means = whole _ _ _ _ (λ h. (refl, places-look c acks bytes frames))
 
   pub kept-numbers-means : keptNumbersIn c acks ≡ keptNumbers s
   unfolding keptNumbersIn keptNumbers look

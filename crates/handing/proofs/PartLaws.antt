@@ -3,15 +3,11 @@ use mathlib.Core.List.{List, _++_}
 use mathlib.Core.Path.{_≡_, sym, ap, _∙_}
 use Prim.Native.Nat.{ℕ, _+_}
 use native.Mathlib.Nat.{zero-add}
-use lib.ListN.{length, getD, drop}
+use lib.ListN.{getD, drop}
 use Rattle.rules.specs.Calls.{written}
-use Rattle.rules.proofs.MapsLaws.{length-listed}
 use Rattle.tables.specs.Rows.{part}
 use Rattle.tables.proofs.FillLaws.{filled}
-use Rattle.tables.proofs.ListedLaws.{listed-same}
-
-pub length-part : (l : List ℕ) (a m : ℕ) → length (part l a m) ≡ m
-length-part l a m = length-listed a m (λ i. getD l i 0)
+use Rattle.tables.proofs.ListedLaws.{length-part, listed-same}
 
 pub filled-part : (out l : List ℕ) (a m i : ℕ) → i ≡ m → filled out (λ k. getD l (a + k) 0) i ≡ written out (part l a m)
 filled-part out l a m i e =

@@ -10,16 +10,15 @@ use lib.ListN.{length, getD, length-map}
 use borrow.Author.Tests.{eqb-false, not-false}
 use Rattle.rules.specs.State.{Place, State}
 use Rattle.rules.specs.Steps.{withoutTaken}
-use Rattle.rules.specs.Sound.{sound}
-use Rattle.rules.specs.Calls.{Result, written, oldest, takeChecks, take, takes}
+use Rattle.rules.specs.Calls.{written, oldest, takeChecks, take}
 use Rattle.rules.proofs.MapsLaws.{length-listed}
-use Rattle.rules.proofs.CallSound.{call-sound}
 use Rattle.rules.proofs.AlikeLaws.{Alike, decide-alike}
 use Rattle.lists.specs.Order.{entry, confirmeds, withoutFirst}
 use Rattle.lists.specs.View.{Shows}
 use Rattle.lists.proofs.ChangeLaws.{first-shows, withoutFirst-shows}
 use Rattle.lists.proofs.ShowLaws.{shows-is}
 use Rattle.tables.specs.Rows.{part}
+use Rattle.tables.proofs.ListedLaws.{length-part}
 use Rattle.state.specs.declared.Core.{Core}
 use Rattle.state.specs.View.{placeAt, keptOf, look}
 use Rattle.state.specs.Soundness.{soundOf}
@@ -29,7 +28,6 @@ use Rattle.state.proofs.RoomLaws.{sound-room}
 use Rattle.state.specs.Changed.{withOrder}
 use Rattle.handing.specs.Handing.{oldestPlace, lengthAt, takenAt, takingChecks, takingOf}
 use Rattle.handing.specs.Meant.{takenMeans}
-use Rattle.handing.proofs.PartLaws.{length-part}
 
 module _ (c : Core) (acks bytes frames : List ℕ) where
   abbrev s : State
@@ -90,10 +88,3 @@ module _ (c : Core) (acks bytes frames : List ℕ) where
   taking-means out long =
       decide-alike (takenMeans acks bytes frames) _ _ _ _ (λ a. refl) (takingChecks c acks out) (takeChecks s out) (alike out long)
       (λ passed. taken long (not-false _ (passed .0)) (eqb-false (c .order .confirmed) 0 (passed .1 .0)) out)
-
-  -- a sound unit stays sound
-  pub taking-sound : (out : List ℕ) → length (c .order .list) ≡ 128 → soundOf c acks ≡ true → soundOf (takingOf c acks bytes out .result .core) acks ≡ true
-  taking-sound out long h =
-      sound-look (takingOf c acks bytes out .result .core) acks bytes frames
-      ∙ ap (λ (r : Result). sound (r .next)) (taking-means out long)
-      ∙ call-sound s (takes out) (sym (sound-look c acks bytes frames) ∙ h)

@@ -11,21 +11,18 @@ use Rattle.state.specs.Opening.{openedOf}
 use Rattle.state.specs.Soundness.{lowIn, soundOf}
 use Rattle.state.specs.View.{freePlaces}
 
-one-value : {A : Type 0} {r q x : A} → r ≡ x → q ≡ x → r ≡ q
-one-value a b = a ∙ sym b
-
 -- the answer, and every number of the unit
 pub opened-with-determined : (o : Opening) (r q : Opened) → r ≡ openedOf o → q ≡ openedOf o → r ≡ q
-opened-with-determined o r q a b = one-value a b
+opened-with-determined o r q a b = a ∙ sym b
 
 pub own-low-determined : (al : List ℕ) (me n r q : ℕ) → r ≡ lowIn al me n → q ≡ lowIn al me n → r ≡ q
-own-low-determined al me n r q a b = one-value a b
+own-low-determined al me n r q a b = a ∙ sym b
 
 pub is-unit-determined : (n k : ℕ) (r q : Bool) → r ≡ between 1 n k → q ≡ between 1 n k → r ≡ q
-is-unit-determined n k r q a b = one-value a b
+is-unit-determined n k r q a b = a ∙ sym b
 
 pub free-places-determined : (c : Core) (r q : ℕ) → r ≡ freePlaces c → q ≡ freePlaces c → r ≡ q
-free-places-determined c r q a b = one-value a b
+free-places-determined c r q a b = a ∙ sym b
 
 pub sound-determined : (c : Core) (acks : List ℕ) (r q : Bool) → r ≡ soundOf c acks → q ≡ soundOf c acks → r ≡ q
-sound-determined c acks r q a b = one-value a b
+sound-determined c acks r q a b = a ∙ sym b

@@ -7,3 +7,4 @@ pub mod OpeningLaws
 pub mod PlaceLaws
 pub mod RoomLaws
 pub mod SoundLaws
+pub mod UnitsLaws

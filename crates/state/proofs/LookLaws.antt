@@ -1,14 +1,12 @@
 -- The state that a unit's numbers and arrays show: its lists, its places, its minAL.
 use mathlib.Core.List.{List}
-use mathlib.Core.Path.{_≡_, refl, sym, ap, _∙_}
+use mathlib.Core.Path.{_≡_, refl, sym, ap}
 use Prim.Native.Nat.{ℕ, _-_, _*_, _≤_, _<_}
 use lib.ListN.{length, getD}
 use borrow.Author.Tests.{le-leb, lt-ltb}
-use Rattle.rules.specs.Maps.{least}
 use Rattle.rules.specs.State.{State, minAL, free}
-use Rattle.tables.specs.Rows.{grid}
-use Rattle.rules.proofs.MapsLaws.{length-listed}
 use Rattle.tables.proofs.GridLaws.{least-grid}
+use Rattle.tables.proofs.ListedLaws.{length-part}
 use Rattle.lists.specs.View.{Holds, Shows}
 use Rattle.lists.proofs.TakenLaws.{taken-length}
 use Rattle.state.specs.declared.Core.{Core}
@@ -24,10 +22,6 @@ module _ (c : Core) (acks bytes : List ℕ) where
   unfolding look
   shows-look frames = record { units = refl; pal = refl; waiting = refl; ordered = refl; confirmed = refl }
 
-  pub minAL-look : (frames : List ℕ) (k : ℕ) → minAL (look c acks bytes frames) k ≡ least (c .n) (grid (c .n) (c .al) k)
-  unfolding minAL look
-  minAL-look frames k = refl
-
 pub lowest-is : (c : Core) → 1 ≤ c .me → c .me ≤ c .n → lowest c ≡ ownLow c
 unfolding lowIn
 lowest-is c a b = least-grid (c .n) (c .al) (c .me) a b
@@ -37,14 +31,15 @@ module _ (c : Core) (acks bytes frames : List ℕ) where
   s = look c acks bytes frames
 
   pub low-look : 1 ≤ c .me → c .me ≤ c .n → ownLow c ≡ minAL s (c .me)
-  low-look a b = sym (minAL-look c acks bytes frames (c .me) ∙ lowest-is c a b)
+  unfolding minAL look
+  low-look a b = sym (lowest-is c a b)
 
-  pub free-look : freePlaces c ≡ free s
+  pub places-look : freePlaces c ≡ free s
   unfolding freePlaces free look
-  free-look = ap (λ (m : ℕ). 4 * c .w * c .n - m) (sym (taken-length (placeAt c acks bytes) (c .n) (c .order) s (shows-look c acks bytes frames)))
+  places-look = ap (λ (m : ℕ). 4 * c .w * c .n - m) (sym (taken-length (placeAt c acks bytes) (c .n) (c .order) s (shows-look c acks bytes frames)))
 
 -- the frame of a kept number is as long as its slot says
 pub kept-length : (c : Core) (frames : List ℕ) (x : ℕ) → lowest c ≤ x → x < c .seq → length (keptOf c frames x) ≡ getD (c .kept) (x - lowest c) 0
 unfolding keptOf
 kept-length c frames x a b =
-    rw (le-leb (lowest c) x a, lt-ltb x (c .seq) b) (length-listed (117 * (x - lowest c)) (getD (c .kept) (x - lowest c) 0) (λ i. getD frames i 0))
+    rw (le-leb (lowest c) x a, lt-ltb x (c .seq) b) (length-part frames (117 * (x - lowest c)) (getD (c .kept) (x - lowest c) 0))

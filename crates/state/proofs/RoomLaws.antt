@@ -1,14 +1,13 @@
 -- What soundness says of the order of places: it has room for those that are taken, and each is of a sender 1 to n.
-use mathlib.Core.Bool.{Bool, true, false, _&&_}
+use mathlib.Core.Bool.{Bool, true, _&&_}
 use mathlib.Core.List.{List, []}
 use mathlib.Core.Path.{_≡_, refl, sym, ap, _∙_}
-use Prim.Native.Nat.{ℕ, zero, suc, _*_, _≤_, _<_}
+use Prim.Native.Nat.{ℕ, zero, suc, _*_, _≤_}
 use native.Mathlib.Omega.{arith}
 use native.Mathlib.Nat.{mul-le-mul}
 use lib.ListN.{length}
 use Rattle.rules.specs.Maps.{all, every, listed}
-use Rattle.rules.specs.Sound.{sound}
-use Rattle.rules.proofs.MapsLaws.{and-left, and-right, not-true, every-at}
+use Rattle.rules.proofs.MapsLaws.{and-left, and-right, every-at}
 use Rattle.rules.proofs.SoundLaws.{Ranges, Sound, sound-facts}
 use Rattle.rules.proofs.SlotsLaws.{taken-most}
 use Rattle.lists.specs.Order.{total, entry, takens}
@@ -47,9 +46,6 @@ module _ (c : Core) (acks : List ℕ) where
         taken-most s f,
         mul-le-mul {n₁ = 4 * c .w} {m₁ = c .n} {n₂ = 16} {m₂ = 8} (omega (arith, f .ranges .w-high)) (f .ranges .n-high),
       )
-
-  pub over-unsound : (bytes frames : List ℕ) → 128 < total (c .order) → sound (look c acks bytes frames) ≡ false
-  over-unsound bytes frames h = not-true (sound (look c acks bytes frames)) (λ e. omega (arith, sound-room (sound-look c acks bytes frames ∙ e)))
 
   -- each taken place is one of those of the senders; the array's length comes from its type
   pub sound-whole : length (c .order .list) ≡ 128 → soundOf c acks ≡ true → Whole (c .n) (c .order)

@@ -11,10 +11,11 @@ use Rattle.rules.specs.Maps.{between, all, among, at, every, units}
 use Rattle.rules.specs.Message.{last}
 use Rattle.rules.specs.State.{Place, State, minAL, taken}
 use Rattle.rules.specs.Sound.{rangesFit, nextsFit, windowFits, placeFits, keptFit, once, sound}
-use Rattle.rules.proofs.MapsLaws.{and-left, and-right, and-intro, same-test, between-low, between-high, is-between, length-listed, units-in}
+use Rattle.rules.proofs.MapsLaws.{and-left, and-right, and-intro, same-test, between-low, between-high, is-between, units-in}
 use Rattle.rules.proofs.SoundLaws.{Ranges, rangesFit-facts}
 use Rattle.tables.specs.Rows.{rowOf, part, grid, noneZero}
 use Rattle.tables.proofs.GridLaws.{grid-row}
+use Rattle.tables.proofs.ListedLaws.{length-part}
 use Rattle.tables.proofs.RowLaws.{at-next}
 use Rattle.lists.specs.Order.{senderOf, takens}
 use Rattle.lists.proofs.PlaceLaws.{All, all-map, once-cons}
@@ -89,9 +90,9 @@ module _ (c : Core) (acks bytes frames : List ℕ) where
   place p =
       rw (
         le-leb 1 (senderOf p) (omega arith),
-        eq-eqb (length (part acks (8 * p) (c .n))) (c .n) (length-listed (8 * p) (c .n) (λ i. getD acks i 0)),
+        eq-eqb (length (part acks (8 * p) (c .n))) (c .n) (length-part acks (8 * p) (c .n)),
         noZero-part acks (8 * p) (c .n),
-        length-listed (48 * p) (getD (c .lens) p 0) (λ i. getD bytes i 0),
+        length-part bytes (48 * p) (getD (c .lens) p 0),
         sent-range (getD (c .seqs) p 0),
       )
 

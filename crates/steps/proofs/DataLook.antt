@@ -3,7 +3,7 @@ use mathlib.Core.Bool.{Bool, true, cond, not, _||_}
 use mathlib.Core.List.{List, [], _∷_}
 use mathlib.Core.Option.{some}
 use mathlib.Core.Path.{_≡_, refl, sym, ap, _∙_, fun-ext}
-use Prim.Native.Nat.{ℕ, zero, suc, _+_, _-_, _*_, _≤_, _<_, min, max}
+use Prim.Native.Nat.{ℕ, zero, suc, _-_, _*_, _≤_, _<_, max}
 use native.Mathlib.Omega.{arith}
 use lib.Dec.{eqb, leb, ltb}
 use lib.ListN.{length, drop, set, List·getD-eq-default}
@@ -24,6 +24,7 @@ use Rattle.frame.specs.declared.Frame.{Frame}
 use Rattle.frame.specs.Acks.{eight}
 use Rattle.frame.specs.Frame.{frameOf}
 use Rattle.frame.proofs.Numbers.{length-eight}
+use Rattle.store.specs.Store.{after}
 use Rattle.store.proofs.RowLaws.{units-set}
 use Rattle.steps.specs.Arrival.{notedOf}
 use Rattle.steps.specs.Checks.{impossible, unitChecks}
@@ -79,7 +80,7 @@ module _ (c : Core) (acks bytes frames : List ℕ) (p : Message) (most : c .n �
 
   -- the number after p's, where one fits, and what the frame says of each unit
   abbrev next : ℕ
-  next = min (p .seq + 1) 4294967295
+  next = after (p .seq)
 
   abbrev said : List ℕ
   said = set (eight (p .ack)) (p .src - 1) next

@@ -7,7 +7,6 @@ use Prim.Native.Nat.{ℕ, _≤_}
 use native.Mathlib.Omega.{arith}
 use lib.Dec.{eqb}
 use lib.ListN.{drop}
-use Rattle.rules.specs.Maps.{among}
 use Rattle.rules.specs.Message.{Message, message}
 use Rattle.rules.specs.State.{State}
 use Rattle.rules.specs.Steps.{noted, accepted}
@@ -33,7 +32,7 @@ use Rattle.store.specs.Fits.{Sized, Fits, Says}
 use Rattle.store.proofs.AcceptedLook.{acceptedLook, accepted-look}
 use Rattle.store.proofs.Supplied.{storable-fits, storable-goes}
 use Rattle.steps.specs.declared.Arrival.{Arrival}
-use Rattle.steps.specs.Arrival.{passing, notedOf, acceptingOf, storing, unitArrival, dataArrival}
+use Rattle.steps.specs.Arrival.{passing, notedOf, notes, acceptingOf, storing, unitArrival, dataArrival}
 use Rattle.steps.specs.Checks.{unitChecks}
 use Rattle.steps.specs.Means.{arrivedAs}
 use Rattle.steps.proofs.AckLaws.{part-eight}
@@ -83,13 +82,9 @@ module _ (c : Core) (acks bytes frames : List ℕ) (Z : Sized c acks bytes) (p :
 
   -- ---- from a unit of the group
 
-  -- the answers that note
-  abbrev noting : ℕ → Bool
-  noting a = among a (9 ∷ 10 ∷ 12 ∷ [])
-
   -- what the rules give: with answer a, and with t as the next state
   abbrev refused : ℕ → Result
-  refused a = refusal 2 (cond (noting a) (noted s p) s) [] a
+  refused a = refusal 2 (cond (notes a) (noted s p) s) [] a
 
   abbrev done : State → Result
   done t = record { answer = 0; numbers = 0 ∷ 0 ∷ []; next = t; output = [] }
@@ -100,7 +95,7 @@ module _ (c : Core) (acks bytes frames : List ℕ) (Z : Sized c acks bytes) (p :
   unit-means h G passed =
       ap means (decide-answer passes (storing c f) (unitChecks c f) refl)
       ∙ ap (λ (l : List Check). means (decide l passes (storing c f))) (unit-checks c acks bytes frames p most G whole)
-      ∙ decide-map means passes (storing c f) refused (done (accepted s p)) (drop 3 (dataChecks s p)) (λ a x. notes (noting a) a)
+      ∙ decide-map means passes (storing c f) refused (done (accepted s p)) (drop 3 (dataChecks s p)) (λ a x. refuses (notes a) a)
       (λ x. ap done (accepted-means (passed x)))
     where
       most : c .n ≤ 8
@@ -110,11 +105,11 @@ module _ (c : Core) (acks bytes frames : List ℕ) (Z : Sized c acks bytes) (p :
       whole = sound-whole c acks (Z .list) (sound-look c acks bytes frames ∙ h)
 
       passes : ℕ → Arrival
-      passes a = passing a 0 0 (cond (noting a) (notedOf c f) c)
+      passes a = passing a 0 0 (cond (notes a) (notedOf c f) c)
 
-      notes : (t : Bool) (a : ℕ) → means (passing a 0 0 (cond t (notedOf c f) c)) ≡ refusal 2 (cond t (noted s p) s) [] a
-      notes false a = refl
-      notes true a = ap (λ (t : State). refusal 2 t [] a) (noted-look c acks bytes frames p most G (limits .seq-high))
+      refuses : (t : Bool) (a : ℕ) → means (passing a 0 0 (cond t (notedOf c f) c)) ≡ refusal 2 (cond t (noted s p) s) [] a
+      refuses false a = refl
+      refuses true a = ap (λ (t : State). refusal 2 t [] a) (noted-look c acks bytes frames p most G (limits .seq-high))
 
   -- ---- the whole
 

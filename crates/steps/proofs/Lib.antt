@@ -11,4 +11,3 @@ pub mod RangeLaws
 pub mod RequestMeans
 pub mod RowLook
 pub mod SendingMeans
-pub mod ShapeLaws

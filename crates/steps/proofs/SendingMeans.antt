@@ -25,9 +25,10 @@ use Rattle.lists.specs.View.{Whole}
 use Rattle.state.specs.declared.Core.{Core}
 use Rattle.state.specs.View.{freePlaces, look}
 use Rattle.state.specs.Soundness.{soundOf}
-use Rattle.state.proofs.LookLaws.{low-look, free-look}
+use Rattle.state.proofs.LookLaws.{low-look, places-look}
 use Rattle.state.proofs.SoundLaws.{sound-look}
 use Rattle.state.proofs.RoomLaws.{sound-whole}
+use Rattle.state.proofs.UnitsLaws.{part-units, take-units}
 use Rattle.store.specs.Arrays.{withFrame}
 use Rattle.store.specs.Store.{keptSlot, keepingOf}
 use Rattle.store.specs.Fits.{Sized, Says, Keeps}
@@ -38,7 +39,6 @@ use Rattle.steps.specs.declared.Sending.{Sending}
 use Rattle.steps.specs.Checks.{windowOpen, sendChecks}
 use Rattle.steps.specs.Sending.{frameLength, refusedSend, ownAccepting, sendingOwn, sendingChecked, sendingOf}
 use Rattle.steps.specs.Means.{Shaped, ownFrame, sentAs}
-use Rattle.steps.proofs.AckLaws.{part-units, take-units}
 use Rattle.steps.proofs.ChecksLook.{full-look}
 use Rattle.rules.proofs.DecideLaws.{decide-answer, decide-map}
 use Rattle.steps.proofs.PlaceLook.{Taking, taking}
@@ -75,7 +75,7 @@ module _ (c : Core) (acks bytes frames : List ℕ) (Z : Shaped c acks bytes fram
 
   own-frame : c .n ≤ 8 → ownFrame c (freePlaces c) d ≡ framed q
   unfolding ownFrame outgoing look
-  own-frame most = rw (take-units (c .n) (c .req) (omega (arith, Z .sized .req)), free-look c acks bytes frames)
+  own-frame most = rw (take-units (c .n) (c .req) (omega (arith, Z .sized .req)), places-look c acks bytes frames)
 
   frame-length : Sound s → frameLength c (length d) ≡ length (framed q)
   unfolding frameLength outgoing look
@@ -104,7 +104,7 @@ module _ (c : Core) (acks bytes frames : List ℕ) (Z : Shaped c acks bytes fram
           src = sym (T .sender);
           seq = refl;
           ack = sym (part-units (c .n) (c .req));
-          buf = sym (free-look c acks bytes frames);
+          buf = sym (places-look c acks bytes frames);
           bytes = refl;
           count = Z .sized .req;
           long = refl;

@@ -1,8 +1,8 @@
 -- What an arrival gives: its answer and numbers, the unit's next numbers, and what is to be written into the arrays.
-use mathlib.Core.Bool.{true, false, cond}
+use mathlib.Core.Bool.{Bool, true, false, cond}
 use mathlib.Core.List.{List, [], _∷_}
 use mathlib.Core.Option.{Option}
-use Prim.Native.Nat.{ℕ, _+_, _-_, _*_, min}
+use Prim.Native.Nat.{ℕ, _+_, _-_, _*_}
 use lib.Dec.{eqb}
 use lib.ListN.{set, replicate}
 use Rattle.rules.specs.Maps.{among}
@@ -17,7 +17,7 @@ use Rattle.frame.specs.declared.Frame.{Frame}
 use Rattle.frame.specs.Frame.{frameOf}
 use Rattle.store.specs.declared.Accepting.{Accepting}
 use Rattle.store.specs.declared.Next.{Next}
-use Rattle.store.specs.Store.{storedOf}
+use Rattle.store.specs.Store.{after, storedOf}
 use Rattle.steps.specs.declared.Arrival.{Arrival}
 use Rattle.steps.specs.Checks.{groupChecks, unitChecks, requestChecks, resendFrom}
 
@@ -37,7 +37,7 @@ passing answer first last c =
 
 -- the numbers that f shows to be missing are noted
 unfoldable pub notedOf : Core → Frame → Core
-notedOf c f = withHeard c (raised (c .n) (c .heard) (set (f .ack) (f .src - 1) (min (f .seq + 1) 4294967295)))
+notedOf c f = withHeard c (raised (c .n) (c .heard) (set (f .ack) (f .src - 1) (after (f .seq))))
 
 -- the place number of the first free place of sender j
 unfoldable pub freePlace : Core → ℕ → ℕ
@@ -62,11 +62,15 @@ storing c f =
       core = s .core;
     }
 
--- from a unit of the group: 9, 10 and 12 note the missing numbers
+-- the answers that note the missing numbers
+abbrev pub notes : ℕ → Bool
+notes a = among a (9 ∷ 10 ∷ 12 ∷ [])
+
+-- from a unit of the group
 unfoldable pub unitArrival : Core → Frame → Arrival
 unitArrival c f =
     let a : ℕ = answerOf (unitChecks c f) in
-    cond (eqb a 0) (storing c f) (passing a 0 0 (cond (among a (9 ∷ 10 ∷ 12 ∷ [])) (notedOf c f) c))
+    cond (eqb a 0) (storing c f) (passing a 0 0 (cond (notes a) (notedOf c f) c))
 
 unfoldable pub dataArrival : Core → Frame → Arrival
 dataArrival c f = decide (groupChecks c f) (λ a. passing a 0 0 c) (unitArrival c f)

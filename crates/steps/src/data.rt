@@ -8,11 +8,9 @@ use state::Core;
 use store;
 use store::Accepting;
 use tables;
-ghost use mathlib.Core.List.{[], _∷_};
 ghost use mathlib.Core.Path.{_≡_};
 ghost use Prim.Native.Nat.{_<_};
-ghost use Rattle.rules.specs.Maps.{among};
-ghost use Rattle.steps.specs.Arrival.{notedOf, storing, unitArrival, dataArrival};
+ghost use Rattle.steps.specs.Arrival.{notedOf, notes, storing, unitArrival, dataArrival};
 ghost use Rattle.rules.specs.Calls.{answerOf};
 ghost use Rattle.steps.specs.Checks.{Ranged, FromUnit, impossible, turnChecks, unitChecks};
 
@@ -114,7 +112,7 @@ fn stored(c: Core, f: Frame) -> Arrival
 
 // Whether a refusal notes the missing numbers.
 fn notes(answer: u32) -> bool
-    ensures { λ r. ⌜ r ≡ among answer (9 ∷ 10 ∷ 12 ∷ []) ⌝ }
+    ensures { λ r. ⌜ r ≡ notes answer ⌝ }
 {
     if answer == 9 {
         return true;

@@ -10,8 +10,9 @@ use lib.ListN.{length, getD, drop, List·getD-eq-default}
 use lib.Seq.{getD-drop}
 use borrow.Author.Tests.{ne-eqb}
 use Rattle.rules.specs.Maps.{between, units, at, column, least}
-use Rattle.rules.proofs.MapsLaws.{Lt?, lt, ge, lt?, between-low, between-high, is-between, units-in, least-mono, length-listed, getD-listed}
+use Rattle.rules.proofs.MapsLaws.{Lt?, lt, ge, lt?, between-low, between-high, is-between, units-in, least-mono, getD-listed}
 use Rattle.tables.specs.Rows.{part, rowOf, grid, withColumn}
+use Rattle.tables.proofs.ListedLaws.{length-part}
 use Rattle.tables.proofs.RowLaws.{at-before}
 
 -- whether k is a unit: match on it, and the test becomes true or false
@@ -41,7 +42,7 @@ module _ (l : List ℕ) where
     where
       go : {t : Bool} → Lt? k n t → getD (part l a n) k 0 ≡ 0
       go (lt x) = absurd (h (omega arith) (omega arith))
-      go (ge x) = List·getD-eq-default (part l a n) 0 (let e : length (part l a n) ≤ k = omega (arith, length-listed a n (λ i. getD l i 0)) in e)
+      go (ge x) = List·getD-eq-default (part l a n) 0 (let e : length (part l a n) ≤ k = omega (arith, length-part l a n) in e)
 
 -- ---- the least of a row
 

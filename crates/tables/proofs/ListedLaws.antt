@@ -4,10 +4,14 @@ use mathlib.Core.List.{List, [], _∷_, _++_}
 use Prim.Native.Nat.{ℕ, zero, suc, _+_, _-_, _≤_, _<_}
 use native.Mathlib.Omega.{arith}
 use native.Mathlib.Nat.{zero-add, add-zero}
-use lib.ListN.{take, drop}
+use lib.ListN.{length, getD, take, drop}
 use lib.Seq.{take-at, drop-at}
 use Rattle.rules.specs.Maps.{listed}
 use Rattle.rules.proofs.MapsLaws.{length-listed}
+use Rattle.tables.specs.Rows.{part}
+
+pub length-part : (l : List ℕ) (a m : ℕ) → length (part l a m) ≡ m
+length-part l a m = length-listed a m (λ i. getD l i 0)
 
 pub listed-append : (a m k : ℕ) (f : ℕ → ℕ) → listed a (m + k) f ≡ listed a m f ++ listed (a + m) k f
 listed-append a zero k f =

@@ -30,7 +30,7 @@ use Rattle.steps.specs.declared.Arrival.{Arrival}
 use Rattle.steps.specs.declared.Sending.{Sending}
 use Rattle.steps.specs.Checks.{groupChecks, unitChecks, requestChecks, resendFrom}
 use Rattle.state.specs.Changed.{withHeard}
-use Rattle.steps.specs.Arrival.{notedOf, passing, storing, unitArrival, dataArrival, requestArrival, frameArrival, arrivalOf}
+use Rattle.steps.specs.Arrival.{notedOf, notes, passing, storing, unitArrival, dataArrival, requestArrival, frameArrival, arrivalOf}
 use Rattle.steps.specs.Sending.{sendingOf}
 use Rattle.unit.specs.declared.Unit.{Unit}
 use Rattle.unit.specs.declared.Opened.{Opened}
@@ -67,7 +67,7 @@ unchanged u c a next e = record { unit = e ∙ ap (λ (v : Unit). withCore u (wi
 record Passes (c : Core) (r : Arrival) : Type 0 where
   stores : r .stores ≡ false
   core : r .core ≡ withHeard c (r .core .heard)
-  same : among (r .answer) (9 ∷ 10 ∷ 12 ∷ []) ≡ false → r .core ≡ c
+  same : notes (r .answer) ≡ false → r .core ≡ c
 
 record Refuses (c : Core) (r : Arrival) : Type 0 where
   passes : r .answer ≢ 0 → Passes c r
@@ -83,11 +83,11 @@ module _ (c : Core) where
   either true x y = x
   either false x y = y
 
-  noted-refuses : (f : Frame) (a : ℕ) → Refuses c (passing a 0 0 (cond (among a (9 ∷ 10 ∷ 12 ∷ [])) (notedOf c f) c))
+  noted-refuses : (f : Frame) (a : ℕ) → Refuses c (passing a 0 0 (cond (notes a) (notedOf c f) c))
   unfolding notedOf
-  noted-refuses f a = record { passes = λ h. go (among a (9 ∷ 10 ∷ 12 ∷ [])) refl }
+  noted-refuses f a = record { passes = λ h. go (notes a) refl }
     where
-      go : (t : Bool) → among a (9 ∷ 10 ∷ 12 ∷ []) ≡ t → Passes c (passing a 0 0 (cond t (notedOf c f) c))
+      go : (t : Bool) → notes a ≡ t → Passes c (passing a 0 0 (cond t (notedOf c f) c))
       go true e = record { stores = refl; core = refl; same = λ z. absurd (true≢false (sym e ∙ z)) }
       go false e = record { stores = refl; core = refl; same = λ z. refl }
 

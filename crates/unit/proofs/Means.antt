@@ -7,7 +7,7 @@ use Prim.Native.Nat.{ℕ}
 use lib.Dec.{eqb}
 use lib.ListN.{length, replicate}
 use Rattle.rules.specs.Sound.{sound}
-use Rattle.rules.specs.Calls.{Result, written, Call, call, sends, hears, takes}
+use Rattle.rules.specs.Calls.{Result, Call, call, sends, hears, takes}
 use Rattle.rules.specs.Calls as rules
 use Rattle.rules.specs.Looks.{Looked}
 use Rattle.rules.proofs.CallSound.{call-sound}

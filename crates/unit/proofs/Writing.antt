@@ -17,7 +17,7 @@ use Rattle.rules.proofs.SoundLaws.{Ranges}
 use Rattle.state.specs.declared.Core.{Core}
 use Rattle.state.specs.Soundness.{soundOf}
 use Rattle.frame.specs.Frame.{payloadOf}
-use Rattle.framewrite.specs.Writing.{messageOf, dataWritten, Wrote}
+use Rattle.framewrite.specs.Writing.{dataWritten, Wrote}
 use Rattle.state.proofs.RoomLaws.{sound-ranges}
 use Rattle.store.specs.Arrays.{withAck, withText, withFrame, withoutFrames}
 use Rattle.store.specs.Store.{settledOf}
@@ -26,7 +26,7 @@ use Rattle.steps.specs.declared.Sending.{Sending}
 use Rattle.steps.specs.Arrival.{arrivalOf}
 use Rattle.steps.specs.Checks.{sendChecks}
 use Rattle.steps.specs.Sending.{refusedSend as refusing, sendingOwn, sendingChecked, sendingOf}
-use Rattle.steps.specs.Means.{ownFrame}
+use Rattle.steps.specs.Means.{ownMessage, ownFrame}
 use Rattle.steps.proofs.PassedLaws.{passed-all}
 use Rattle.unit.specs.declared.Unit.{Unit}
 use Rattle.unit.specs.Exact.{withCore, storedWith, refusedSend, sentUnit, sentBy, sentOf, arrivedUnit, arrivedBy, arrivedOf}
@@ -88,11 +88,11 @@ module _ (c : Core) (buf : ℕ) (d : List ℕ) (most : c .n ≤ length (c .req))
   -- the frame, 37 + 4n + d bytes long
   pub own-length : length (ownFrame c buf d) ≡ 37 + 4 * c .n + length d
   unfolding ownFrame
-  own-length = omega (arith, length-message (messageOf (c .cid) (c .me) (c .seq) (take (c .n) (c .req)) buf d), length-take (c .n) (c .req))
+  own-length = omega (arith, length-message (ownMessage c buf d), length-take (c .n) (c .req))
 
   -- stands at the front of the output
   module _ (out : List ℕ) (p : Sendable c (length d) (length out)) (answer : ℕ) (after : List ℕ)
-      (w : Wrote (dataWritten (c .n) (messageOf (c .cid) (c .me) (c .seq) (take (c .n) (c .req)) buf d) out) answer after) where
+      (w : Wrote (dataWritten (c .n) (ownMessage c buf d) out) answer after) where
     pub own-written : after ≡ written out (ownFrame c buf d)
     unfolding dataWritten ownFrame
     own-written =

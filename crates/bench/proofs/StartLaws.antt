@@ -1,5 +1,5 @@
 -- A group that is opened shows the script's desk as it is opened.
-use mathlib.Core.Bool.{Bool, true, false, cond, _&&_}
+use mathlib.Core.Bool.{Bool, true, false, cond, _&&_, and-false}
 use mathlib.Core.List.{List}
 use mathlib.Core.Path.{_≡_, refl, sym, ap, _∙_, fun-ext}
 use Prim.Native.Nat.{ℕ, zero, suc, _-_, _≤_}
@@ -10,7 +10,7 @@ use Rattle.rules.specs.Message.{last}
 use Rattle.rules.specs.State.{opened, closed}
 use Rattle.rules.specs.Sound.{rangesFit}
 use Rattle.rules.specs.Calls.{Opened, openChecks, opening}
-use Rattle.rules.proofs.MapsLaws.{and-false, between-low, between-high, not-true}
+use Rattle.rules.proofs.MapsLaws.{between-low, between-high, not-true}
 use Rattle.rules.proofs.SoundLaws.{Ranges, rangesFit-facts}
 use Rattle.tables.proofs.GridLaws.{Unit?, inside, outside, unit?}
 use Rattle.tables.proofs.RowLaws.{at-before}

@@ -1,5 +1,5 @@
 -- The code's table is the rules' table, entry by entry; no line is of a kind beyond data and request.
-use mathlib.Core.Bool.{Bool, true, false, cond}
+use mathlib.Core.Bool.{Bool, true, false, cond, and-false}
 use mathlib.Core.Logic.{_≢_}
 use mathlib.Core.List.{List, [], _∷_, map}
 use mathlib.Core.Path.{_≡_, refl, sym, ap, _∙_}
@@ -10,7 +10,7 @@ use lib.ListN.{length, getD, List·getD-map, List·getD-eq-default}
 use borrow.Author.Tests.{ne-eqb, le-leb, lt-leb}
 use Rattle.rules.specs.Maps.{between, all, among}
 use Rattle.rules.specs.Fields.{Row as Line, noRow, table, rowOf}
-use Rattle.rules.proofs.MapsLaws.{and-false, and-both, between-low, between-high}
+use Rattle.rules.proofs.MapsLaws.{and-both, between-low, between-high}
 use Rattle.rules.proofs.FieldsLaws.{all-rowOf, rowOf-line, usable-rowOf, tagsLeft, tagsLeft-step, tagsLeft-end}
 use Rattle.rules.proofs.MessageLaws.{table-usable}
 use Rattle.frame.specs.declared.table.Row.{Row}

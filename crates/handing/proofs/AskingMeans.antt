@@ -13,8 +13,7 @@ use Rattle.rules.specs.State.{State}
 use Rattle.rules.specs.Steps.{asking}
 use Rattle.rules.specs.Calls.{makeChecks, makeRequest}
 use Rattle.rules.proofs.AlikeLaws.{Alike, decide-alike}
-use Rattle.rules.proofs.ChecksLaws.{or-left}
-use Rattle.rules.proofs.MapsLaws.{between-low, between-high, units-in, length-listed}
+use Rattle.rules.proofs.MapsLaws.{between-low, between-high, units-in, length-listed, or-left}
 use Rattle.rules.proofs.MessageLaws.{length-request}
 use Rattle.state.specs.declared.Core.{Core}
 use Rattle.state.specs.View.{look}

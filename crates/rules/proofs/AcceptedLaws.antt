@@ -14,9 +14,9 @@ use Rattle.rules.specs.State.{State, minAL, places}
 use Rattle.rules.specs.Steps.{known}
 use Rattle.rules.specs.Sound.{sound}
 use Rattle.rules.specs.Calls.{full, foreign, dataChecks, arriveData}
-use Rattle.rules.proofs.MapsLaws.{Eq?, same, other, eq?, between-low, between-high, least-le, every-at}
+use Rattle.rules.proofs.MapsLaws.{Eq?, same, other, eq?, between-low, between-high, least-le, every-at, or-left, or-right}
 use Rattle.rules.proofs.CallsLaws.{Passed, data-cases}
-use Rattle.rules.proofs.ChecksLaws.{or-left, or-right, refused-above}
+use Rattle.rules.proofs.ChecksLaws.{refused-above}
 use Rattle.rules.proofs.SoundLaws.{Sound, sound-facts}
 
 -- ---- what both kinds of frame are checked for

@@ -136,8 +136,9 @@ one-unsound s c = (
     one a h (is-unsound x g) = x
     one a h (is-sound x g) = absurd (true≢false (sym g ∙ h))
 
-pub one-unchanged : (s : State) (c : Call) → call s c .answer ≡ 1 → call s c .next ≡ s
-one-unchanged s c e = demand1 s c .refuses (λ z. omega arith) .heard (ap (λ (x : ℕ). among x (noting c)) e ∙ quiet c)
+-- answer 1 notes nothing
+pub one-quiet : {a : ℕ} (c : Call) → a ≡ 1 → among a (noting c) ≡ false
+one-quiet c e = ap (λ (x : ℕ). among x (noting c)) e ∙ quiet c
   where
     quiet : (c : Call) → among 1 (noting c) ≡ false
     quiet (sends d out) = refl
@@ -145,3 +146,6 @@ one-unchanged s c e = demand1 s c .refuses (λ z. omega arith) .heard (ap (λ (x
     quiet (asks k out) = refl
     quiet (copies x out) = refl
     quiet (takes out) = refl
+
+pub one-unchanged : (s : State) (c : Call) → call s c .answer ≡ 1 → call s c .next ≡ s
+one-unchanged s c e = demand1 s c .refuses (λ z. omega arith) .heard (one-quiet c e)

@@ -1,5 +1,5 @@
 -- Lists of checks: a refusal answers with one of their numbers, and so above what they all are above.
-use mathlib.Core.Bool.{Bool, true, false, _||_, true≢false}
+use mathlib.Core.Bool.{Bool, true, false, _||_}
 use mathlib.Core.List.{List, map}
 use mathlib.Core.Path.{_≡_, refl, sym, subst}
 use Prim.Native.Nat.{ℕ, _<_}
@@ -9,14 +9,6 @@ use Rattle.rules.specs.Maps.{all, among}
 use Rattle.rules.specs.Calls.{Check}
 use Rattle.rules.proofs.MapsLaws.{and-left, and-right}
 use Rattle.rules.proofs.CallsLaws.{Refused, now, later}
-
-pub or-left : (a b : Bool) → a || b ≡ false → a ≡ false
-or-left true b h = h
-or-left false b h = refl
-
-pub or-right : (a b : Bool) → a || b ≡ false → b ≡ false
-or-right true b h = absurd (true≢false h)
-or-right false b h = h
 
 -- the numbers that the checks answer with, in their order
 abbrev pub answersOf : List Check → List ℕ

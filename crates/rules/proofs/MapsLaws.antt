@@ -1,5 +1,5 @@
 -- Laws of the maps and tests of `Maps`.
-use mathlib.Core.Bool.{Bool, true, false, cond, _&&_, false≢true}
+use mathlib.Core.Bool.{Bool, true, false, cond, _&&_, _||_, true≢false, false≢true}
 use mathlib.Core.Logic.{_≢_}
 use mathlib.Core.List.{List, [], _∷_, _++_}
 use mathlib.Core.Path.{_≡_, refl, sym, ap, subst, _∙_}
@@ -35,7 +35,7 @@ eq? a b = go (eqb a b) (eqb-true a b) (eqb-false a b)
     go true f g = same (f refl)
     go false f g = other (g refl)
 
--- ---- conjunctions
+-- ---- conjunctions and disjunctions
 
 pub and-left : (a b : Bool) → a && b ≡ true → a ≡ true
 and-left true b h = refl
@@ -48,13 +48,17 @@ and-right false b h = absurd (false≢true h)
 pub and-both : (a b : Bool) → a && b ≡ true → (a ≡ true) × (b ≡ true)
 and-both a b h = (and-left a b h, and-right a b h)
 
-pub and-false : (a : Bool) → a && false ≡ false
-and-false true = refl
-and-false false = refl
-
 pub and-intro : (a b : Bool) → a ≡ true → b ≡ true → a && b ≡ true
 and-intro true b p q = q
 and-intro false b p q = p
+
+pub or-left : (a b : Bool) → a || b ≡ false → a ≡ false
+or-left true b h = h
+or-left false b h = refl
+
+pub or-right : (a b : Bool) → a || b ≡ false → b ≡ false
+or-right true b h = absurd (true≢false h)
+or-right false b h = h
 
 -- two tests that hold together
 pub same-test : (x y : Bool) → (x ≡ true → y ≡ true) → (y ≡ true → x ≡ true) → x ≡ y

@@ -1,5 +1,5 @@
 -- Reading and writing frames undo each other, for both kinds; what is read is lawful; the lengths of frames.
-use mathlib.Core.Bool.{Bool, true, false}
+use mathlib.Core.Bool.{Bool, true, false, and-false}
 use mathlib.Core.List.{List, [], _∷_}
 use mathlib.Core.Logic.{_⊎_, inl, inr, ⊎-elim}
 use mathlib.Core.Option.{Option, none, some}
@@ -12,7 +12,7 @@ use borrow.Author.Tests.{ltb-true, lt-ltb, eqb-true, eq-eqb}
 use Rattle.rules.specs.Fields.{Row, table, rowOf, tagsOf, print, fits, numbers}
 use Rattle.rules.specs.Message.{Message, Request, Said, message, request, last, edition, kindOf, numbersOf, encode, noZero, inLimits, one, asMessage, asRequest, when, readAs, orElse, decode}
 use Rattle.rules.specs.Lawful.{Each, nil, cons, Bytes, Content, Contents, LawfulAck, Lawful}
-use Rattle.rules.proofs.MapsLaws.{and-both, and-false, and-intro}
+use Rattle.rules.proofs.MapsLaws.{and-both, and-intro}
 use Rattle.rules.proofs.BytesLaws.{each-at, each-map}
 use Rattle.rules.proofs.FieldsLaws.{usable, allAlone, allAlone-is, fits-print, numbers-print, print-numbers, contents-numbers, length-print, each-tagsFrom, each-print}
 

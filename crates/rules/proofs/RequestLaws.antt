@@ -14,9 +14,9 @@ use Rattle.rules.specs.State.{State, minAL}
 use Rattle.rules.specs.Steps.{missingFrom, missingTo, asking, isKept, resentFrom, resentTo}
 use Rattle.rules.specs.Sound.{sound}
 use Rattle.rules.specs.Calls.{written, requestChecks, arriveRequest, makeChecks, makeRequest}
-use Rattle.rules.proofs.MapsLaws.{and-both, and-intro, between-low, between-high, is-between, at-listed}
+use Rattle.rules.proofs.MapsLaws.{and-both, and-intro, between-low, between-high, is-between, at-listed, or-left, or-right}
 use Rattle.rules.proofs.CallsLaws.{Passed, request-cases, make-cases}
-use Rattle.rules.proofs.ChecksLaws.{or-left, or-right, refused-above}
+use Rattle.rules.proofs.ChecksLaws.{refused-above}
 use Rattle.rules.proofs.AcceptedLaws.{Comes, passed-comes}
 use Rattle.rules.proofs.SoundLaws.{Sound, sound-facts}
 

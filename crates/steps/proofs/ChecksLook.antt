@@ -9,8 +9,7 @@ use borrow.Author.Tests.{eqb-true, not-false}
 use Rattle.rules.specs.Maps.{between}
 use Rattle.rules.specs.State.{State}
 use Rattle.rules.specs.Calls.{foreign, full}
-use Rattle.rules.proofs.MapsLaws.{between-low, between-high}
-use Rattle.rules.proofs.ChecksLaws.{or-left, or-right}
+use Rattle.rules.proofs.MapsLaws.{between-low, between-high, or-left, or-right}
 use Rattle.lists.specs.View.{Whole}
 use Rattle.lists.proofs.TakenLaws.{takenOf-is}
 use Rattle.state.specs.declared.Core.{Core}

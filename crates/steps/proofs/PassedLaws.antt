@@ -10,9 +10,9 @@ use borrow.Author.Tests.{ltb-false, leb-false}
 use Rattle.rules.specs.Maps.{between, all, at}
 use Rattle.rules.specs.Message.{Said, message, request, decode}
 use Rattle.rules.specs.Calls.{Check, answerOf}
-use Rattle.rules.proofs.MapsLaws.{and-right, between-low, between-high}
+use Rattle.rules.proofs.MapsLaws.{and-right, between-low, between-high, or-left, or-right}
 use Rattle.rules.proofs.CallsLaws.{Passed, decide-cases}
-use Rattle.rules.proofs.ChecksLaws.{or-left, or-right, answersOf, refused-above}
+use Rattle.rules.proofs.ChecksLaws.{answersOf, refused-above}
 use Rattle.rules.proofs.LimitsLaws.{decode-limits}
 use Rattle.state.specs.declared.Core.{Core}
 use Rattle.frame.specs.declared.Frame.{Frame}

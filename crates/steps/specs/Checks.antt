@@ -40,7 +40,7 @@ impossible c f =
 unfoldable pub noPlace : Core → ℕ → Bool
 noPlace c j = leb (4 * c .w) (length (only (isOf j) (takens (c .order))))
 
--- a frame of this group, from a unit: whether it is its own, what it says, and whether it is its sender's turn
+-- a message of another unit that can be: whether it is its sender's turn, and whether it can be stored
 abbrev pub turnChecks : Core → Frame → List Check
 turnChecks c f =
     (ltb (f .seq) (at (c .req) (f .src)) ⇒ 8)
@@ -50,6 +50,7 @@ turnChecks c f =
     ∷ (noPlace c (f .src) ⇒ 12)
     ∷ []
 
+-- a frame of this group, from a unit: whether it is its own, and whether what it says can be
 abbrev pub unitChecks : Core → Frame → List Check
 unitChecks c f = (eqb (f .src) (c .me) ⇒ 6) ∷ (impossible c f ⇒ 7) ∷ turnChecks c f
 
@@ -84,7 +85,7 @@ requestChecks c f =
 
 -- ---- send
 
--- SEQ is below minAL of the own index and the smaller of W and (least BUF divided by n)
+-- SEQ is below minAL of the own index plus the smaller of W and (least BUF divided by n)
 unfoldable pub windowOpen : Core → Bool
 windowOpen c = ltb (c .seq) (ownLow c + min (c .w) (least (c .n) (at (c .buf)) / c .n))
 

@@ -13,9 +13,9 @@ use Rattle.rules.specs.Message.{Said, decode}
 use Rattle.rules.specs.Sound.{sound}
 use Rattle.rules.specs.Calls as rules
 use Rattle.rules.specs.Calls.{Result, written, Call, call, sends, hears, asks, copies, takes, answerOf}
-use Rattle.rules.specs.Demand1.{orderOf, noting}
+use Rattle.rules.specs.Demand1.{orderOf}
 use Rattle.rules.proofs.CallsLaws.{decide-cases}
-use Rattle.rules.proofs.CallSound.{one-unsound}
+use Rattle.rules.proofs.CallSound.{one-unsound, one-quiet}
 use Rattle.rules.proofs.Demand1Laws.{demand1, openingDemand1}
 use Rattle.tables.specs.Rows.{part}
 use Rattle.state.specs.declared.Core.{Core}
@@ -163,17 +163,9 @@ opens-answers o r c =
 
 -- ---- answer 1
 
-none-note : (c : Call) → among 1 (noting c) ≡ false
-none-note (sends d out) = refl
-none-note (hears l) = refl
-none-note (asks k out) = refl
-none-note (copies x out) = refl
-none-note (takes out) = refl
-
 -- answer 1 leaves the unit unchanged
 pub one-same : (u : Unit) (c : Call) (x : Outcome) → Demand1 u c x → x .answer ≡ 1 → x .next ≡ u
-one-same u c x d e =
-    d .refuses (λ z. omega arith) .stays .heard (ap (λ (a : ℕ). among a (noting c)) e ∙ none-note c)
+one-same u c x d e = d .refuses (λ z. omega arith) .stays .heard (one-quiet c e)
 
 -- and is for a unit that is not sound
 pub one-not-sound : (u : Unit) (c : Call) (x : Outcome) → meant x ≡ call (view u) c → (x .answer ≡ 1) ↔ (sound (view u) ≡ false)

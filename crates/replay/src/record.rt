@@ -1,8 +1,7 @@
 // The bytes of a call and of what it gave.
 ghost use mathlib.Core.Path.{_≡_};
-ghost use Prim.Native.Nat.{_+_, _≤_, min};
+ghost use Prim.Native.Nat.{_≤_, min};
 ghost use lib.ListN.{length};
-ghost use lib.Seq.{sets};
 ghost use Rattle.replay.specs.Record.{numberAt, textOf, headOf};
 use tables;
 
@@ -55,16 +54,4 @@ pub fn head(answer: u32, a: usize, b: usize, c: usize) -> [u8; 16]
         0,
         0,
     ]
-}
-
-// Writes bytes from a place on.
-pub fn put_bytes(d: &mut [u8], at: usize, b: &[u8])
-    requires { ⌜ at + length (now b) ≤ length (now d) ⌝ }
-    ensures { λ r. ⌜ now (d .exit) ≡ sets (now (d .entry)) at (now (b .entry)) ⌝ }
-{
-    let mut i = 0;
-    while i < b.len() {
-        d[at + i] = b[i];
-        i += 1;
-    }
 }

@@ -1,6 +1,6 @@
 // The bytes of a call and of what it gave.
 ghost use mathlib.Core.Path.{_≡_};
-ghost use Prim.Native.Nat.{_≤_, min};
+ghost use Prim.Native.Nat.{_≤_};
 ghost use lib.ListN.{length};
 ghost use Rattle.replay.specs.Record.{numberAt, textOf, headOf};
 use tables;
@@ -17,19 +17,12 @@ pub fn number_at(s: &[u8], at: usize) -> u32
     16777216 * a + 65536 * b + 256 * c + d
 }
 
-fn least(a: usize, b: usize) -> usize
-    ensures { λ r. ⌜ r ≡ min a b ⌝ }
-{
-    if a < b { a } else { b }
-}
-
 // Those of the 200 bytes that count.
 pub fn text(s: &[u8]) -> &[u8]
     requires { ⌜ 208 ≤ length (now s) ⌝ }
     ensures { λ r. ⌜ now r ≡ textOf (now (s .entry)) ⌝ }
 {
-    let end = 8 + least(tables::byte(s, 7) as usize, 200);
-    &s[8..end]
+    tables::front(&s[8..208], tables::byte(s, 7) as usize)
 }
 
 // Answer and numbers of a call, as the reply starts with them.

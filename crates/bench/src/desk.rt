@@ -1,9 +1,9 @@
 // The group on the bench: its units, and the frames written so far.
 use state::Opening;
+use tables;
 use unit::Unit;
 ghost use mathlib.Core.Path.{_≡_};
-ghost use Prim.Native.Nat.{_*_, _<_, _≤_};
-ghost use lib.ListN.{length};
+ghost use Prim.Native.Nat.{_*_, _<_};
 ghost use lib.Seq.{sets};
 ghost use Rattle.bench.specs.Desk.{startedUnit, startedDesk, keptIn};
 
@@ -33,14 +33,10 @@ fn opened_unit(me: u8, n: u8, w: u8) -> Unit
 
 // Copies a frame, and what follows it, into its slot of the store.
 fn put_frame(store: &mut [u8; Desk::FRAMES * Unit::MOST_FRAME], slot: usize, frame: &[u8])
-    requires { ⌜ (slot < 64) × (length (now frame) ≤ 117) ⌝ }
+    requires { ⌜ slot < 64 ⌝ }
     ensures { λ r. ⌜ now (store .exit) ≡ sets (now (store .entry)) (117 * slot) (now (frame .entry)) ⌝ }
 {
-    let mut i = 0;
-    while i < frame.len() {
-        store[Unit::MOST_FRAME * slot + i] = frame[i];
-        i += 1;
-    }
+    tables::put_bytes(store, Unit::MOST_FRAME * slot, frame);
 }
 
 impl Desk {
@@ -67,7 +63,7 @@ impl Desk {
 
     // Where a call answered 0, the len bytes that it wrote are the next frame.
     pub fn keep(mut self, answer: u32, frame: &[u8], len: usize) -> Self
-        requires { ⌜ (self .count < 64) × (length (now frame) ≤ 117) ⌝ }
+        requires { ⌜ self .count < 64 ⌝ }
         ensures { λ r. ⌜ r ≡ keptIn self answer (now (frame .entry)) len ⌝ }
     {
         if answer != 0 {

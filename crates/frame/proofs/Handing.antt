@@ -18,7 +18,7 @@ use Rattle.frame.specs.Frame.{frameOf}
 use Rattle.frame.specs.Export.{handed, exported, Exported}
 use Rattle.frame.proofs.Numbers.{length-eight}
 use Rattle.frame.proofs.Reading.{message-is, request-is, data-at, request-at}
-use Rattle.frame.proofs.Stores.{sets-++, sets-written}
+use Rattle.rules.proofs.StoresLaws.{sets-++, sets-written}
 
 -- ---- hand_out
 

@@ -6,7 +6,6 @@ pub mod Turn
 pub mod Places
 pub mod Reading
 pub mod Outs
-pub mod Stores
 pub mod Handing
 pub mod Held
 pub mod Walk

@@ -16,7 +16,7 @@ use Rattle.rules.proofs.MapsLaws.{Lt?, lt, ge, lt?, and-both, same-test, not-tr
 use Rattle.rules.proofs.MessageLaws.{ack-content, text-content, message-contents, request-contents, length-message, length-request}
 use Rattle.frame.specs.declared.table.Row.{Row}
 use Rattle.frame.specs.Table.{lineOf, lengthFits}
-use Rattle.frame.proofs.Stores.{sets-written}
+use Rattle.rules.proofs.StoresLaws.{sets-written}
 use Rattle.framewrite.specs.declared.fields.Singles.{Singles}
 use Rattle.framewrite.specs.Fields.{contentOf, fieldsOf, FieldsRoom}
 use Rattle.framewrite.specs.Writing.{dataWritten, requestWritten, Wrote}

@@ -8,7 +8,7 @@ use lib.ListN.{length, getD, drop, set, length-append, length-set}
 use lib.Seq.{sets, drop-cons, drop-length}
 use Rattle.rules.specs.Bytes.{bytes, allBytes}
 use Rattle.rules.proofs.BytesLaws.{length-bytes, bytes-suc, length-allBytes}
-use Rattle.frame.proofs.Stores.{sets-++, set-sets}
+use Rattle.rules.proofs.StoresLaws.{sets-++, set-sets}
 
 -- ---- a number of w bytes: j are left, and they say `left`
 

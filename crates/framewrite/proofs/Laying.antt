@@ -13,7 +13,7 @@ use Rattle.rules.proofs.FieldsLaws.{usable-rowOf}
 use Rattle.rules.proofs.MessageLaws.{table-usable}
 use Rattle.frame.specs.declared.table.Row.{Row}
 use Rattle.frame.specs.Table.{lineOf}
-use Rattle.frame.proofs.Stores.{sets-++}
+use Rattle.rules.proofs.StoresLaws.{sets-++}
 use Rattle.framewrite.specs.Field.{FieldRoom, FieldWritten}
 
 field-stored : (d d₁ d₂ : List ℕ) (p t n : ℕ) (c : List ℕ) → length c ≡ n → d₁ ≡ sets d p (t ∷ bytes 2 n) → d₂ ≡ sets d₁ (p + 3) c

@@ -14,7 +14,7 @@ use Rattle.rules.proofs.BytesLaws.{length-allBytes}
 use Rattle.rules.proofs.FieldsLaws.{tagsLeft, size, length-print}
 use Rattle.frame.specs.Table.{has}
 use Rattle.frame.proofs.Lines.{tags-step, tags-end}
-use Rattle.frame.proofs.Stores.{sets-++}
+use Rattle.rules.proofs.StoresLaws.{sets-++}
 use Rattle.framewrite.specs.declared.fields.Singles.{Singles}
 use Rattle.framewrite.specs.Field.{fieldOf, sizeOf, FieldRoom, FieldWritten}
 use Rattle.framewrite.specs.Fields.{numberOf, contentOf, contentsOf, fieldsOf, FieldsRoom}

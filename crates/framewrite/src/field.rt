@@ -7,11 +7,11 @@ ghost use lib.Seq.{sets};
 ghost use Rattle.rules.specs.Bytes.{bytes};
 ghost use Rattle.rules.specs.Maps.{between};
 ghost use Rattle.framewrite.specs.Field.{FieldRoom, FieldWritten};
-use crate::number::put_bytes;
 use crate::number::put_number;
 use crate::number::put_numbers;
 use frame::table::length_fits;
 use frame::table::row_of;
+use tables;
 
 // The tags of the fields that can have several numbers.
 pub const ACK: u8 = 6;
@@ -60,6 +60,6 @@ pub fn put_text(d: &mut [u8], at: usize, text: &[u8]) -> usize
 {
     let n = text.len();
     put_front(d, at, DATA, n);
-    put_bytes(d, at + 3, text);
+    tables::put_bytes(d, at + 3, text);
     at + 3 + n
 }

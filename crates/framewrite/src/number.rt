@@ -40,15 +40,3 @@ pub fn put_numbers(d: &mut [u8], at: usize, w: usize, xs: &[u32])
         i += 1;
     }
 }
-
-// Writes bytes from a place on.
-pub fn put_bytes(d: &mut [u8], at: usize, b: &[u8])
-    requires { ⌜ at + length (now b) ≤ length (now d) ⌝ }
-    ensures { λ r. ⌜ now (d .exit) ≡ sets (now (d .entry)) at (now (b .entry)) ⌝ }
-{
-    let mut i = 0;
-    while i < b.len() {
-        d[at + i] = b[i];
-        i += 1;
-    }
-}

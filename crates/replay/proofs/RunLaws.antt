@@ -5,7 +5,7 @@ use Prim.Native.Nat.{ℕ, suc, _+_, _*_, _<_}
 use native.Mathlib.Omega.{arith}
 use lib.ListN.{length, getD, set, take, drop, length-append, length-take, length-drop}
 use lib.Seq.{sets, drop-cons}
-use Rattle.frame.proofs.Stores.{sets-++}
+use Rattle.rules.proofs.StoresLaws.{sets-++}
 use Rattle.handing.specs.Handing.{Given, Gives}
 use Rattle.unit.specs.declared.Unit.{Unit}
 use Rattle.replay.specs.declared.calls.Made.{Made}

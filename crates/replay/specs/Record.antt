@@ -1,6 +1,6 @@
 -- A call as a record of bytes, and the bytes of what it gave (docs/REPLAY.md).
 use mathlib.Core.List.{List, [], _∷_, _++_}
-use Prim.Native.Nat.{ℕ, _+_, _*_, _/_, _%_, min}
+use Prim.Native.Nat.{ℕ, _+_, _*_, _/_, _%_}
 use lib.ListN.{getD, take, drop}
 
 -- ---- a call
@@ -28,7 +28,7 @@ roomOf l = byteAt l 6
 
 -- those of the 200 bytes that count
 abbrev pub textOf : List ℕ → List ℕ
-textOf l = take (min (byteAt l 7) 200) (drop 8 l)
+textOf l = take (byteAt l 7) (take 200 (drop 8 l))
 
 -- ---- what it gave
 

@@ -16,14 +16,6 @@ fn put(d: &mut [u32], at: usize, x: u32)
     }
 }
 
-fn put_byte(d: &mut [u8], at: usize, x: u8)
-    ensures { λ r. ⌜ now (d .exit) ≡ set (now (d .entry)) at x ⌝ }
-{
-    if at < d.len() {
-        d[at] = x;
-    }
-}
-
 // SEQ, i, n, W and CID.
 fn with_number(mut c: Core, what: u8, x: u32) -> Core
     ensures { λ r. ⌜ r ≡ withNumber c what x ⌝ }
@@ -58,30 +50,29 @@ fn with_number(mut c: Core, what: u8, x: u32) -> Core
 fn with_entry(mut c: Core, what: u8, k: u8, j: u8, x: u32) -> Core
     ensures { λ r. ⌜ r ≡ withEntry c what k j x ⌝ }
 {
-    let row = tables::before(k) as usize;
-    let cell = 8 * row + (tables::before(j) as usize);
     match what {
         1 => {
-            let mut req = c.req;
-            put(&mut req, row, x);
-            c.req = req;
+            let req = c.req;
+            let next = tables::with(req, k, x);
+            c.req = next;
             c
         }
         2 => {
-            let mut heard = c.heard;
-            put(&mut heard, row, x);
-            c.heard = heard;
+            let heard = c.heard;
+            let next = tables::with(heard, k, x);
+            c.heard = next;
             c
         }
         3 => {
-            let mut buf = c.buf;
-            put(&mut buf, row, x);
-            c.buf = buf;
+            let buf = c.buf;
+            let next = tables::with(buf, k, x);
+            c.buf = next;
             c
         }
         4 => {
             let mut al = c.al;
-            put(&mut al, cell, x);
+            let row = tables::before(k) as usize;
+            put(&mut al, 8 * row + (tables::before(j) as usize), x);
             c.al = al;
             c
         }
@@ -105,7 +96,8 @@ fn with_message(mut c: Core, what: u8, k: u8, x: u32) -> Core
         }
         11 => {
             let mut lens = c.lens;
-            put_byte(&mut lens, place, (x % 256) as u8);
+            let low = (x % 256) as u8;
+            tables::put_bytes(&mut lens, place, &[low]);
             c.lens = lens;
             c
         }
@@ -128,7 +120,7 @@ fn with_order(mut o: Order, what: u8, k: u8, j: u8, x: u32) -> Order
         13 => {
             let mut list = o.list;
             let same = tables::byte(&list, j as usize);
-            put_byte(&mut list, k as usize, same);
+            tables::put_bytes(&mut list, k as usize, &[same]);
             o.list = list;
             o
         }

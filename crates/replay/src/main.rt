@@ -7,7 +7,6 @@ mod record;
 use libc::STDIN_FILENO;
 use libc::STDOUT_FILENO;
 use record::head;
-use record::put_bytes;
 use state::Opening;
 use tables;
 use unit::Unit;
@@ -55,8 +54,8 @@ fn answered(u: Unit, s: &[u8], out: &mut [u8], at: usize) -> Unit
     let room = tables::byte(s, 6) as usize;
     let m = calls::make(u, s, &mut lent[..room]);
     let front = head(m.answer, m.a, m.b, m.c);
-    put_bytes(out, at, &front);
-    put_bytes(out, at + 16, &lent);
+    tables::put_bytes(out, at, &front);
+    tables::put_bytes(out, at + 16, &lent);
     let next = m.unit;
     next
 }

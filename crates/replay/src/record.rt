@@ -1,8 +1,7 @@
 // The bytes of a call and of what it gave.
 ghost use mathlib.Core.Path.{_≡_};
-ghost use Prim.Native.Nat.{_+_, _≤_, min};
+ghost use Prim.Native.Nat.{_≤_};
 ghost use lib.ListN.{length};
-ghost use lib.Seq.{sets};
 ghost use Rattle.replay.specs.Record.{numberAt, textOf, headOf};
 use tables;
 
@@ -18,19 +17,12 @@ pub fn number_at(s: &[u8], at: usize) -> u32
     16777216 * a + 65536 * b + 256 * c + d
 }
 
-fn least(a: usize, b: usize) -> usize
-    ensures { λ r. ⌜ r ≡ min a b ⌝ }
-{
-    if a < b { a } else { b }
-}
-
 // Those of the 200 bytes that count.
 pub fn text(s: &[u8]) -> &[u8]
     requires { ⌜ 208 ≤ length (now s) ⌝ }
     ensures { λ r. ⌜ now r ≡ textOf (now (s .entry)) ⌝ }
 {
-    let end = 8 + least(tables::byte(s, 7) as usize, 200);
-    &s[8..end]
+    tables::front(&s[8..208], tables::byte(s, 7) as usize)
 }
 
 // Answer and numbers of a call, as the reply starts with them.
@@ -55,16 +47,4 @@ pub fn head(answer: u32, a: usize, b: usize, c: usize) -> [u8; 16]
         0,
         0,
     ]
-}
-
-// Writes bytes from a place on.
-pub fn put_bytes(d: &mut [u8], at: usize, b: &[u8])
-    requires { ⌜ at + length (now b) ≤ length (now d) ⌝ }
-    ensures { λ r. ⌜ now (d .exit) ≡ sets (now (d .entry)) at (now (b .entry)) ⌝ }
-{
-    let mut i = 0;
-    while i < b.len() {
-        d[at + i] = b[i];
-        i += 1;
-    }
 }

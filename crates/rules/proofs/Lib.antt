@@ -27,3 +27,4 @@ pub mod TakenLaws
 pub mod CallSound
 pub mod KeptLaws
 pub mod CopiedLaws
+pub mod StoresLaws

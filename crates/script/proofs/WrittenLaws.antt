@@ -1,15 +1,14 @@
 -- Laws of writing to lent output: by single bytes, by texts one after the other, and whole.
 use mathlib.Core.List.{List, [], _∷_, _++_, append-assoc}
 use mathlib.Core.Path.{_≡_, refl, sym, ap, _∙_}
-use Prim.Native.Nat.{ℕ, suc, _+_, _-_, _/_, _%_, _<_, _≤_}
-use native.Mathlib.Nat.{add-zero, zero-add}
-use native.Mathlib.Numerals.{add-one}
+use Prim.Native.Nat.{ℕ, _+_, _-_, _/_, _%_, _<_, _≤_}
+use native.Mathlib.Nat.{zero-add}
 use native.Mathlib.Omega.{arith}
-use lib.ListN.{length, getD, drop, set, length-append, length-set, drop-of-length-le}
-use lib.Seq.{sets, length-sets, sets-eq, set-comm, drop-cons, append-snoc}
+use lib.ListN.{length, set, length-append, length-set}
+use lib.Seq.{sets, length-sets, append-snoc}
 use borrow.Author.Tests.{le-leb, lt-leb}
 use Rattle.rules.specs.Message.{last}
-use Rattle.rules.specs.Calls.{written}
+use Rattle.rules.proofs.StoresLaws.{sets-++, set-sets, sets-written}
 use Rattle.script.specs.Lines.{lineFeed}
 use Rattle.script.specs.Items.{space, glued}
 use Rattle.script.specs.Desk.{took}
@@ -17,28 +16,14 @@ use Rattle.script.specs.Print.{decimal, joined, replyItems}
 use Rattle.script.specs.Written.{Put, Wrote}
 use Rattle.script.proofs.PrintLaws.{decimal-one, decimal-more, length-one, length-more, length-decimal}
 
--- ---- runs of stores
-
-sets-++ : (a b l : List ℕ) (i : ℕ) → sets l i (a ++ b) ≡ sets (sets l i a) (i + length a) b
-sets-++ [] b l i = ap (λ (k : ℕ). sets l k b) (sym (add-zero i))
-sets-++ (x ∷ a) b l i =
-    sets-++ a b (set l i x) (suc i) ∙ ap (λ (k : ℕ). sets (sets (set l i x) (suc i) a) k b) (let e : suc i + length a ≡ i + suc (length a) = omega arith in e)
-
--- a store behind the run
-sets-set : (a l : List ℕ) (i j x : ℕ) → i + length a ≤ j → set (sets l i a) j x ≡ sets (set l j x) i a
-sets-set [] l i j x h = refl
-sets-set (y ∷ a) l i j x h =
-    sets-set a (set l i y) (suc i) j x (omega arith)
-    ∙ ap (λ (m : List ℕ). sets m (suc i) a) (set-comm l i j y x (λ e. let z : i ≡ j = e in omega arith))
-
 sets-snoc : (a l : List ℕ) (i x : ℕ) → sets l i (a ++ (x ∷ [])) ≡ sets (set l (i + length a) x) i a
-sets-snoc a l i x = sets-++ a (x ∷ []) l i ∙ sets-set a l i (i + length a) x (omega arith)
+sets-snoc a l i x = sym (sets-++ l i a (x ∷ [])) ∙ set-sets l i a (i + length a) x (omega arith)
 
 -- ---- texts
 
 pub put-then : {out mid after a b : List ℕ} {at next end : ℕ} → Put out at a next mid → Put mid next b end after → Put out at (a ++ b) end after
 put-then {out} {mid} {after} {a} {b} {at} {next} {end} p q = record {
-  bytes = q .bytes ∙ rw (p .bytes, p .place) (sym (sets-++ a b out at));
+  bytes = q .bytes ∙ rw (p .bytes, p .place) (sets-++ out at a b);
   place = omega (arith, q .place, p .place, length-append a b);
   long = q .long ∙ p .long;
 }
@@ -72,41 +57,10 @@ length-taken j x word =
 -- the whole text fitted
 pub put-wrote : (out text : List ℕ) {r : ℕ} {after : List ℕ} → length text ≤ length out → Put out 0 text r after → Wrote out text r after
 put-wrote out text h p =
-    record { count = rw (le-leb (length text) (length out) h) (p .place ∙ zero-add (length text)); bytes = rw (le-leb (length text) (length out) h) (p .bytes ∙ whole) }
-  where
-    whole : sets out 0 text ≡ written out text
-    whole = sets-eq text out 0 (omega arith) ∙ ap (λ (n : ℕ). text ++ drop n out) (zero-add (length text))
+    record { count = rw (le-leb (length text) (length out) h) (p .place ∙ zero-add (length text)); bytes = rw (le-leb (length text) (length out) h) (p .bytes ∙ sets-written out text h) }
 
 pub short-wrote : (out text : List ℕ) → length out < length text → Wrote out text 0 out
 short-wrote out text h = record { count = rw (lt-leb (length text) (length out) h); bytes = rw (lt-leb (length text) (length out) h) }
-
--- ---- a text copied up to its i-th byte
-
-module _ (first : List ℕ) (at : ℕ) (s out : List ℕ) (i : ℕ) where
-  pub record Copying : Type 0 where
-    pub within : i ≤ length s
-    pub so-far : sets out (at + i) (drop i s) ≡ sets first at s
-    pub long : length out ≡ length first
-
-module _ (first : List ℕ) (at : ℕ) (s : List ℕ) where
-  pub copying-start : Copying first at s first 0
-  copying-start = record { within = omega arith; so-far = ap (λ (k : ℕ). sets first k s) (add-zero at); long = refl }
-
-  pub copying-more : (out : List ℕ) (i : ℕ) → i < length s → Copying first at s out i → Copying first at s (set out (at + i) (getD s i 0)) (i + 1)
-  copying-more out i h w =
-      let e : at + (i + 1) ≡ suc (at + i) = omega arith in
-      record {
-        within = omega arith;
-        so-far = rw (e, add-one i) (rw (drop-cons s i 0 h) at (w .so-far));
-        long = length-set out (at + i) (getD s i 0) ∙ w .long;
-      }
-
-  pub copying-end : (out : List ℕ) (i : ℕ) → length s ≤ i → Copying first at s out i → Put first at s (at + i) out
-  copying-end out i h w = record {
-    bytes = rw (drop-of-length-le s h) at (w .so-far);
-    place = omega (arith, w .within);
-    long = w .long;
-  }
 
 -- ---- the digits of x, counted: k of them are passed, and `rest` is left
 

@@ -7,6 +7,7 @@ ghost use lib.ListN.{length};
 ghost use Rattle.script.specs.Desk.{unknown, answers, took};
 ghost use Rattle.script.specs.Print.{decimal, joined, groupLine, noGroupLine, replyItems, replyLine};
 ghost use Rattle.script.specs.Written.{Put, Wrote};
+use tables;
 
 // How many digits x has.
 fn places(x: u32) -> usize
@@ -44,12 +45,8 @@ fn put(out: &mut [u8], at: usize, s: &[u8]) -> usize
     requires { ⌜ at + length (now s) ≤ length (now out) ⌝ }
     ensures { λ r. ⌜ Put (now (out .entry)) at (now (s .entry)) r (now (out .exit)) ⌝ }
 {
-    let mut i = 0;
-    while i < s.len() {
-        out[at + i] = s[i];
-        i += 1;
-    }
-    at + i
+    tables::put_bytes(out, at, s);
+    at + s.len()
 }
 
 pub fn group_line(out: &mut [u8], n: u32, w: u32) -> usize

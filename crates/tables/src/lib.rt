@@ -1,7 +1,8 @@
 // Numbers in rows, and tables of eight rows of eight: reads and writes that no index can break.
 ghost use mathlib.Core.Path.{_≡_};
 ghost use Prim.Native.Nat.{_+_, _-_, _*_, _<_, min, max};
-ghost use lib.ListN.{getD, drop, set};
+ghost use lib.ListN.{getD, take, drop, set};
+ghost use lib.Seq.{sets};
 ghost use Rattle.rules.specs.Maps.{at, least, every};
 ghost use Rattle.tables.specs.Rows.{rowOf, noneZero, belowBut, withColumn, columnOf, raised};
 
@@ -62,6 +63,28 @@ pub fn byte(a: &[u8], i: usize) -> u8
     ensures { λ r. ⌜ r ≡ getD (now (a .entry)) i 0 ⌝ }
 {
     if i < a.len() { a[i] } else { 0 }
+}
+
+// The first bytes, at most so many.
+pub fn front(b: &[u8], most: usize) -> &[u8]
+    ensures { λ r. ⌜ now r ≡ take most (now (b .entry)) ⌝ }
+{
+    if most < b.len() { &b[..most] } else { b }
+}
+
+// Writes bytes from a place on, and none past the end.
+pub fn put_bytes(d: &mut [u8], at: usize, b: &[u8])
+    ensures { λ r. ⌜ now (d .exit) ≡ sets (now (d .entry)) at (now (b .entry)) ⌝ }
+{
+    if d.len() <= at {
+        return;
+    }
+    let fitting = front(b, d.len() - at);
+    let mut i = 0;
+    while i < fitting.len() {
+        d[at + i] = fitting[i];
+        i += 1;
+    }
 }
 
 // The list from index i on.

@@ -3,7 +3,7 @@ use borrow.Author.Needs.{needs}
 use native.Mathlib.Omega.{arith}
 use Prim.Native.Nat.{_-_}
 use lib.ListN.{length}
-use Rattle.frame.proofs.Stores.{Stored, none-stored, one-stored, all-stored}
+use Rattle.rules.proofs.StoresLaws.{Stored, none-stored, one-stored, all-stored}
 use Rattle.frame.proofs.export.put_numbers.Statement.{statement}
 use Rattle.frame.proofs.export.put_numbers.Tie as tie
 

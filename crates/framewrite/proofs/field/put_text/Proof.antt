@@ -1,5 +1,6 @@
 -- `put_text` meets its contract.
 use native.Mathlib.Omega.{arith}
+use borrow.Author.Needs.{needs}
 use mathlib.Core.Path.{_∙_}
 use Rattle.framewrite.proofs.Laying.{text-short, text-room, text-written}
 use Rattle.framewrite.proofs.field.put_text.Statement.{statement}
@@ -12,7 +13,7 @@ add-put-bytes : tie.Need-add-put-bytes
 add-put-bytes c = omega (arith, text-room _ _ _ (c .before .before .before .before .before .before .before .pre))
 
 put-bytes-requires : tie.Need-put-bytes-requires
-put-bytes-requires c κs = omega (arith, text-room _ _ _ (c .before .before .before .before .before .before .before .pre), c .before .before .before .put-front .kept .0)
+put-bytes-requires c κs = search needs
 
 add-result : tie.Need-add-result
 add-result c = omega (arith, text-room _ _ _ (c .before .before .before .before .before .before .before .before .before .before .pre))

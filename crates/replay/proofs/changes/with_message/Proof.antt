@@ -20,14 +20,17 @@ slice-aggregate-put c = search needs
 put-requires : tie.Need-put-requires
 put-requires c κs = search needs
 
-slice-aggregate-put-byte : tie.Need-slice-aggregate-put-byte
-slice-aggregate-put-byte c = search needs
+cast-low : tie.Need-cast-low
+cast-low c = search needs
 
-cast-put-byte : tie.Need-cast-put-byte
-cast-put-byte c = search needs
+slice-aggregate-put-bytes : tie.Need-slice-aggregate-put-bytes
+slice-aggregate-put-bytes c = search needs
 
-put-byte-requires : tie.Need-put-byte-requires
-put-byte-requires c κs = search needs
+slice-aggregate-put-bytes-2 : tie.Need-slice-aggregate-put-bytes-2
+slice-aggregate-put-bytes-2 c = search needs
+
+put-bytes-requires : tie.Need-put-bytes-requires
+put-bytes-requires c κs = search needs
 
 returns : tie.Need-returns
 unfolding withMessage
@@ -35,7 +38,7 @@ returns c = rw (c .before .before .before .before .match .keys1, c .before .put 
 
 returns-2 : tie.Need-returns-2
 unfolding withMessage
-returns-2 c = rw (c .before .before .before .before .match .keys2, c .before .put-byte .ensures, c .before .before .before .before .before .byte .ensures)
+returns-2 c = rw (c .before .before .before .before .before .match .keys2, c .before .put-bytes .ensures, c .before .before .before .before .before .before .byte .ensures)
 
 returns-3 : tie.Need-returns-3
 returns-3 c = let r = c .match .rest in message-rest _ _ _ _ (r .0 .1) (r .1)
@@ -49,9 +52,10 @@ with-message-spec =
     cast-place
     slice-aggregate-put
     put-requires
-    slice-aggregate-put-byte
-    cast-put-byte
-    put-byte-requires
+    cast-low
+    slice-aggregate-put-bytes
+    slice-aggregate-put-bytes-2
+    put-bytes-requires
     returns
     returns-2
     returns-3)

@@ -35,11 +35,14 @@ slice-aggregate-byte c = search needs
 byte-requires : tie.Need-byte-requires
 byte-requires c κs = search needs
 
-slice-aggregate-put-byte : tie.Need-slice-aggregate-put-byte
-slice-aggregate-put-byte c = search needs
+slice-aggregate-put-bytes : tie.Need-slice-aggregate-put-bytes
+slice-aggregate-put-bytes c = search needs
 
-put-byte-requires : tie.Need-put-byte-requires
-put-byte-requires c κs = search needs
+slice-aggregate-put-bytes-2 : tie.Need-slice-aggregate-put-bytes-2
+slice-aggregate-put-bytes-2 c = search needs
+
+put-bytes-requires : tie.Need-put-bytes-requires
+put-bytes-requires c κs = search needs
 
 returns : tie.Need-returns
 unfolding withOrder
@@ -47,7 +50,7 @@ returns c = rw (c .before .before .before .before .before .before .match .keys1,
 
 returns-2 : tie.Need-returns-2
 unfolding withOrder
-returns-2 c = rw (c .before .before .before .before .before .before .match .keys2, c .before .put-byte .ensures, c .before .before .before .byte .ensures)
+returns-2 c = rw (c .before .before .before .before .before .before .before .match .keys2, c .before .put-bytes .ensures, c .before .before .before .before .byte .ensures)
 
 returns-3 : tie.Need-returns-3
 returns-3 c = let r = c .match .rest in order-rest _ _ _ _ _ (r .0 .1) (r .1)
@@ -66,8 +69,9 @@ with-order-spec =
     put-requires
     slice-aggregate-byte
     byte-requires
-    slice-aggregate-put-byte
-    put-byte-requires
+    slice-aggregate-put-bytes
+    slice-aggregate-put-bytes-2
+    put-bytes-requires
     returns
     returns-2
     returns-3)

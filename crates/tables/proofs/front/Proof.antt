@@ -3,8 +3,8 @@ use mathlib.Core.Path.{sym}
 use native.Mathlib.Omega.{arith}
 use lib.Seq.{length-take-le, take-all}
 use borrow.Author.Needs.{needs}
-use Rattle.store.proofs.arrays.front.Statement.{statement}
-use Rattle.store.proofs.arrays.front.Tie as tie
+use Rattle.tables.proofs.front.Statement.{statement}
+use Rattle.tables.proofs.front.Tie as tie
 
 slice-aggregate-result : tie.Need-slice-aggregate-result
 slice-aggregate-result c = let s = c .before .before .args in sym (length-take-le (s .most) (s .b .now) (omega arith))

@@ -1,4 +1,4 @@
-// Numbers in rows, and tables of eight rows of eight: reads and writes that no index can break.
+// Numbers and bytes in rows, and tables of eight rows of eight: reads and writes that no index can break.
 ghost use mathlib.Core.Path.{_≡_};
 ghost use Prim.Native.Nat.{_+_, _-_, _*_, _<_, min, max};
 ghost use lib.ListN.{getD, take, drop, set};

@@ -1,5 +1,5 @@
 -- A pass over places that marks each: each fits and none was marked before exactly where each fits and none stands twice.
-use mathlib.Core.Bool.{Bool, true, false, not, _&&_, _||_}
+use mathlib.Core.Bool.{Bool, true, false, not, _&&_, _||_, and-false}
 use mathlib.Core.List.{List, [], _∷_}
 use mathlib.Core.Path.{_≡_, refl, sym, ap, subst, _∙_}
 use Prim.Native.Nat.{ℕ, zero, suc, _+_, _-_, _≤_, _<_}
@@ -7,7 +7,7 @@ use native.Mathlib.Omega.{arith}
 use lib.ListN.{length, getD, set, replicate, length-set}
 use lib.Seq.{getD-set-same, getD-set-other}
 use Rattle.rules.specs.Maps.{all, among, listed}
-use Rattle.rules.proofs.MapsLaws.{Eq?, same, other, eq?, and-false}
+use Rattle.rules.proofs.MapsLaws.{Eq?, same, other, eq?}
 use Rattle.tables.proofs.ListedLaws.{listed-left}
 use Rattle.state.specs.Soundness.{noneTwice}
 

@@ -62,8 +62,11 @@ unfoldable pub arriveMade : Unit → List ℕ → Made
 arriveMade u l = afterArrival (arrivedOf u l)
 
 -- a request and a copy leave the unit as it was
+abbrev pub handedMade : Unit → Handed → Made
+handedMade u h = gives (h .answer) (h .len) 0 0 u
+
 abbrev pub afterHanding : Unit → Given Handed → Given Made
-afterHanding u g = record { result = gives (g .result .answer) (g .result .len) 0 0 u; output = g .output }
+afterHanding u g = record { result = handedMade u (g .result); output = g .output }
 
 unfoldable pub askMade : Unit → ℕ → List ℕ → Given Made
 askMade u k out = afterHanding u (askingOf (u .core) (u .acks) k out)

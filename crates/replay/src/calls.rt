@@ -3,10 +3,11 @@ ghost use mathlib.Core.Path.{_≡_};
 ghost use Prim.Native.Nat.{_≤_};
 ghost use lib.ListN.{length};
 ghost use Rattle.handing.specs.Handing.{Gives};
-ghost use Rattle.replay.specs.Calls.{openMade, sendMade, arriveMade, askMade, copyMade, takeMade, lookMade, seenMade, madeOf};
+ghost use Rattle.replay.specs.Calls.{openMade, sendMade, arriveMade, handedMade, askMade, copyMade, takeMade, lookMade, seenMade, madeOf};
 use crate::changes::changed;
 use crate::record::number_at;
 use crate::record::text;
+use handing::Handed;
 use handing::looks::Look;
 use state::Opening;
 use tables;
@@ -79,30 +80,31 @@ fn arrived(u: Unit, frame: &[u8]) -> Made
     }
 }
 
-fn asked(u: Unit, k: u8, out: &mut [u8]) -> Made
-    ensures { λ r. ⌜ Gives (askMade u k (now (out .entry))) r (now (out .exit)) ⌝ }
+// A request and a copy leave the unit as it was.
+fn handed(u: Unit, h: Handed) -> Made
+    ensures { λ r. ⌜ r ≡ handedMade u h ⌝ }
 {
-    let m = u.request(k, out);
     Made {
-        answer: m.answer,
-        a: m.len,
+        answer: h.answer,
+        a: h.len,
         b: 0,
         c: 0,
         unit: u,
     }
 }
 
+fn asked(u: Unit, k: u8, out: &mut [u8]) -> Made
+    ensures { λ r. ⌜ Gives (askMade u k (now (out .entry))) r (now (out .exit)) ⌝ }
+{
+    let m = u.request(k, out);
+    handed(u, m)
+}
+
 fn copied(u: Unit, x: u32, out: &mut [u8]) -> Made
     ensures { λ r. ⌜ Gives (copyMade u x (now (out .entry))) r (now (out .exit)) ⌝ }
 {
     let m = u.copy(x, out);
-    Made {
-        answer: m.answer,
-        a: m.len,
-        b: 0,
-        c: 0,
-        unit: u,
-    }
+    handed(u, m)
 }
 
 fn taken(u: Unit, out: &mut [u8]) -> Made

@@ -9,7 +9,7 @@ use lib.ListN.{length, take}
 use borrow.Author.Tests.{eq-eqb, ne_eqb}
 use Rattle.rules.specs.Maps.{between, at}
 use Rattle.rules.specs.State.{State}
-use Rattle.rules.specs.Calls.{send, arrive, makeRequest}
+use Rattle.rules.specs.Calls.{send, arrive, make_request}
 use Rattle.rules.specs.Calls as rules
 use Rattle.rules.proofs.MapsLaws.{Lt?, lt, ge, lt?, is-between}
 use Rattle.handing.specs.declared.Handed.{Handed}
@@ -18,39 +18,39 @@ use Rattle.unit.specs.declared.Unit.{Unit}
 use Rattle.unit.specs.declared.Sent.{Sent}
 use Rattle.unit.specs.declared.Arrived.{Arrived}
 use Rattle.unit.specs.declared.Taken.{Taken}
-use Rattle.unit.specs.View.{view, meant, ofSent, ofArrived, ofHanded, ofTaken}
-use Rattle.unit.specs.Contracts.{Sends, Arrives, Asks, Takes}
+use Rattle.unit.specs.View.{view, meant, of_sent, of_arrived, of_handed, of_taken}
+use Rattle.unit.specs.CallContracts.{Sends, Arrives, Asks, Takes}
 use Rattle.script.specs.Items.{Command, sends, arrives, requests, takes, unreadable}
 use Rattle.script.specs.Desk.{answers, took, lent, act}
-use Rattle.script.specs.Print.{replyLine}
+use Rattle.script.specs.Print.{reply_line}
 use Rattle.script.specs.Written.{Wrote}
 use Rattle.script.proofs.HeldLaws.{asks-past}
 use Rattle.bench.specs.declared.desk.Desk.{Desk}
 use Rattle.bench.specs.declared.commands.Done.{Done}
-use Rattle.bench.specs.Desk.{unit_at, unitsOf, frameIn, deskOf, Fits, withUnit}
-use Rattle.bench.specs.Commands.{Acted, asScript, ignored, afterSend, afterArrival, afterRequest, afterTake, actedOf, Named, Acts}
+use Rattle.bench.specs.Desk.{unit_at, units_of, frame_in, desk_of, Fits, with_unit}
+use Rattle.bench.specs.Commands.{Acted, as_script, ignored, after_send, after_arrival, after_request, after_take, acted_of, Named, Acts}
 use Rattle.bench.proofs.PrintLaws.{wrote-prints}
 use Rattle.bench.proofs.LengthLaws.{sent-len, asked-len}
 use Rattle.bench.proofs.DeskLaws.{with-fits, unit-is, unit-set, unit_kept, length-frames, frame_at, kept-shows, kept-fits, kept_more}
 
 -- a number past 255 names no unit, as 255 does
-pub asks-held : (s : State) (k : ℕ) (out : List ℕ) → makeRequest s (min k 255) out ≡ makeRequest s k out
+pub asks-held : (s : State) (k : ℕ) (out : List ℕ) → make_request s (min k 255) out ≡ make_request s k out
 asks-held s k out = go (lt? 255 k)
   where
-    go : {t : Bool} → Lt? 255 k t → makeRequest s (min k 255) out ≡ makeRequest s k out
-    go (lt h) = let e : min k 255 ≡ 255 = omega arith in ap (λ (j : ℕ). makeRequest s j out) e ∙ asks-past s out 255 k (omega arith) (omega arith)
-    go (ge h) = let e : min k 255 ≡ k = omega arith in ap (λ (j : ℕ). makeRequest s j out) e
+    go : {t : Bool} → Lt? 255 k t → make_request s (min k 255) out ≡ make_request s k out
+    go (lt h) = let e : min k 255 ≡ 255 = omega arith in ap (λ (j : ℕ). make_request s j out) e ∙ asks-past s out 255 k (omega arith) (omega arith)
+    go (ge h) = let e : min k 255 ≡ k = omega arith in ap (λ (j : ℕ). make_request s j out) e
 
 -- the command c did a
 pub record Did (d : Desk) (c : Command) (a : Acted) : Type 0 where
-  pub is : actedOf d c ≡ a
-  pub means : asScript a ≡ act (deskOf d) c
+  pub is : acted_of d c ≡ a
+  pub means : as_script a ≡ act (desk_of d) c
   pub fits : Fits a.desk
   pub more : a.desk.count ≤ d.count + 1
 
 -- and its line was printed
 pub did-acts : {d : Desk} {c : Command} {a : Acted} {line : ℕ} {out : List ℕ} {r : Done} {out' : List ℕ} → Did d c a → r.desk ≡ a.desk
-    → length (replyLine line a.reply) ≤ 84 → 84 ≤ length out → Wrote out (replyLine line a.reply) r.len out' → Acts d c line out r out'
+    → length (reply_line line a.reply) ≤ 84 → 84 ≤ length out → Wrote out (reply_line line a.reply) r.len out' → Acts d c line out r out'
 did-acts {a} {line} x e short room w =
     let p = wrote-prints (le_trans short room) w in
     record {
@@ -63,7 +63,7 @@ did-acts {a} {line} x e short room w =
     }
 
 pub ignored-did : (d : Desk) → Fits d → Did d unreadable (ignored d)
-unfolding actedOf
+unfolding acted_of
 ignored-did d f = record { is = refl; means = refl; fits = f; more = omega arith }
 
 module _ (d : Desk) (u : ℕ) (N : Named d u) (long : length d.units ≡ 3) where
@@ -76,11 +76,11 @@ module _ (d : Desk) (u : ℕ) (N : Named d u) (long : length d.units ≡ 3) wher
   exists : between 1 d.n u ≡ true
   exists = is-between 1 d.n u N.low N.high
 
-  there : unitsOf d.units u ≡ view x
+  there : units_of d.units u ≡ view x
   there = unit-is d.units u N.low few
 
-  arrived-acts : (f : ℕ) → 1 ≤ f → f ≤ d.count → (a : Arrived) → meant (ofArrived a) ≡ arrive (view x) (frameIn d.store d.lens (f - 1))
-      → asScript (afterArrival d u a) ≡ act (deskOf d) (arrives u f)
+  arrived-acts : (f : ℕ) → 1 ≤ f → f ≤ d.count → (a : Arrived) → meant (of_arrived a) ≡ arrive (view x) (frame_in d.store d.lens (f - 1))
+      → as_script (after_arrival d u a) ≡ act (desk_of d) (arrives u f)
   arrived-acts f low high a m =
       rw (
         exists,
@@ -93,27 +93,27 @@ module _ (d : Desk) (u : ℕ) (N : Named d u) (long : length d.units ≡ 3) wher
         append-nil,
       )
 
-  taken-acts : (g : Given Taken) → meant (ofTaken g.result g.output) ≡ rules.take (view x) (lent 48)
-      → asScript (afterTake d u g) ≡ act (deskOf d) (takes u)
+  taken-acts : (g : Given Taken) → meant (of_taken g.result g.output) ≡ rules.take (view x) (lent 48)
+      → as_script (after_take d u g) ≡ act (desk_of d) (takes u)
   taken-acts g m = rw (exists, there, ← m, unit-set d.units u N.low few long g.result.unit, append-nil)
 
   module _ (room : d.count < 64) (store_long : length d.store ≡ 7488) (lens-long : length d.lens ≡ 64) where
     sent-acts : (word : List ℕ) (g : Given Sent) → length g.output ≡ 117 → g.result.len ≤ 117
-        → meant (ofSent g.result g.output) ≡ send (view x) word (lent 117)
-        → asScript (afterSend d u g) ≡ act (deskOf d) (sends u word)
+        → meant (of_sent g.result g.output) ≡ send (view x) word (lent 117)
+        → as_script (after_send d u g) ≡ act (desk_of d) (sends u word)
     sent-acts word g l-long short m =
         let s : Sent = g.result in
         rw (
           exists,
           there,
           ← m,
-          kept-shows (withUnit d u s.unit) (with-fits d u s.unit N.fits) room store_long lens-long g.output l-long s.len short s.answer,
+          kept-shows (with_unit d u s.unit) (with-fits d u s.unit N.fits) room store_long lens-long g.output l-long s.len short s.answer,
           unit-set d.units u N.low few long s.unit,
         )
 
     asked-acts : (k : ℕ) (g : Given Handed) → length g.output ≡ 117 → g.result.len ≤ 117
-        → meant (ofHanded x g.result g.output) ≡ makeRequest (view x) (min k 255) (lent 117)
-        → asScript (afterRequest d g) ≡ act (deskOf d) (requests u k)
+        → meant (of_handed x g.result g.output) ≡ make_request (view x) (min k 255) (lent 117)
+        → as_script (after_request d g) ≡ act (desk_of d) (requests u k)
     asked-acts k g l-long short m =
         let h : Handed = g.result in
         rw (
@@ -126,8 +126,8 @@ module _ (d : Desk) (u : ℕ) (N : Named d u) (long : length d.units ≡ 3) wher
         )
 
     pub sent-did : (word : List ℕ) (s : Sent) (frame : List ℕ) → length frame ≡ 117 → Sends x word (lent 117) s frame
-        → Did d (sends u word) (afterSend d u (record { result = s; output = frame }))
-    unfolding actedOf
+        → Did d (sends u word) (after_send d u (record { result = s; output = frame }))
+    unfolding acted_of
     sent-did word s frame l-long S =
         record {
           is = rw (exists, S.exact, S.bytes);
@@ -137,14 +137,14 @@ module _ (d : Desk) (u : ℕ) (N : Named d u) (long : length d.units ≡ 3) wher
         }
       where
         e : Desk
-        e = withUnit d u s.unit
+        e = with_unit d u s.unit
 
         short : s.len ≤ 117
         short = rw S.exact (sent-len x word (lent 117) (sym (ap length S.bytes) ∙ l-long))
 
     pub asked-did : (k : ℕ) (h : Handed) (frame : List ℕ) → length frame ≡ 117 → Asks x (min k 255) (lent 117) h frame
-        → Did d (requests u k) (afterRequest d (record { result = h; output = frame }))
-    unfolding actedOf
+        → Did d (requests u k) (after_request d (record { result = h; output = frame }))
+    unfolding acted_of
     asked-did k h frame l-long A =
         record {
           is = rw (exists, A.exact, A.bytes);
@@ -156,8 +156,8 @@ module _ (d : Desk) (u : ℕ) (N : Named d u) (long : length d.units ≡ 3) wher
         short : h.len ≤ 117
         short = rw A.exact (asked-len x.core x.acks (min k 255) (lent 117))
 
-  pub arrived-did : (f : ℕ) → 1 ≤ f → f ≤ d.count → (a : Arrived) → Arrives x (frameIn d.store d.lens (f - 1)) a → Did d (arrives u f) (afterArrival d u a)
-  unfolding actedOf
+  pub arrived-did : (f : ℕ) → 1 ≤ f → f ≤ d.count → (a : Arrived) → Arrives x (frame_in d.store d.lens (f - 1)) a → Did d (arrives u f) (after_arrival d u a)
+  unfolding acted_of
   arrived-did f low high a A =
       record {
         is = rw (exists, is-between 1 d.count f low high, A.exact);
@@ -166,8 +166,8 @@ module _ (d : Desk) (u : ℕ) (N : Named d u) (long : length d.units ≡ 3) wher
         more = omega arith;
       }
 
-  taken-did : (t : Taken) (word : List ℕ) → Takes x (lent 48) t word → Did d (takes u) (afterTake d u (record { result = t; output = word }))
-  unfolding actedOf
+  taken-did : (t : Taken) (word : List ℕ) → Takes x (lent 48) t word → Did d (takes u) (after_take d u (record { result = t; output = word }))
+  unfolding acted_of
   taken-did t word T =
       record {
         is = rw (exists, T.exact, T.bytes);
@@ -177,9 +177,9 @@ module _ (d : Desk) (u : ℕ) (N : Named d u) (long : length d.units ≡ 3) wher
       }
 
   pub refused_did : (t : Taken) (word : List ℕ) → Takes x (lent 48) t word → (t.answer ≡ 0 → ⊥)
-      → Did d (takes u) (record { desk = withUnit d u t.unit; reply = answers t.answer })
+      → Did d (takes u) (record { desk = with_unit d u t.unit; reply = answers t.answer })
   refused_did t word T h = rw (ne_eqb t.answer 0 h) at (taken-did t word T)
 
   pub took-did : (t : Taken) (word : List ℕ) → Takes x (lent 48) t word → t.answer ≡ 0
-      → Did d (takes u) (record { desk = withUnit d u t.unit; reply = took t.src t.seq (take t.len word) })
+      → Did d (takes u) (record { desk = with_unit d u t.unit; reply = took t.src t.seq (take t.len word) })
   took-did t word T h = rw (eq-eqb t.answer 0 h) at (taken-did t word T)

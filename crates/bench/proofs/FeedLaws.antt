@@ -10,14 +10,14 @@ use lib.Seq.{drop-cons, drop-length, take-append_seam, drop-append_seam, drop-dr
 use borrow.Author.Tests.{eq-eqb, ne_eqb}
 use borrow.Rule.Slice.PartMut.{mid_of, put_mid, same_len_mid}
 use Rattle.rules.specs.Calls.{written}
-use Rattle.script.specs.Lines.{lineFeed}
-use Rattle.script.specs.Gathered.{begunOf, pushed}
-use Rattle.script.specs.Reader.{longer, Read, readLine, readByte, readPart}
+use Rattle.script.specs.Lines.{line_feed}
+use Rattle.script.specs.Gathered.{begun_of, pushed}
+use Rattle.script.specs.Reader.{longer, Read, read_line, read_byte, read_part}
 use Rattle.script.proofs.CommandLaws.{take_rest}
 use Rattle.bench.specs.declared.reading.Bench.{Bench}
 use Rattle.bench.specs.declared.reading.Told.{Told}
 use Rattle.bench.specs.Prints.{Prints}
-use Rattle.bench.specs.Reading.{readerOf, Ready, Said, asScript, lineSaid, pushedTo, byteSaid, partSaid, Reads}
+use Rattle.bench.specs.Reading.{reader_of, Ready, Said, as_script, line_said, pushed_to, byte_said, part_said, Reads}
 
 -- ---- one text after the other
 
@@ -49,11 +49,11 @@ prints-then {text} {more} {out} {mid} {after} {len} {m} p q =
 -- ---- so far
 
 -- s, and then what the bytes l say
-abbrev andSaid : Said → List ℕ → Said
-andSaid s l = record { next = (partSaid s.next l).next; text = s.text ++ (partSaid s.next l).text }
+abbrev and_said : Said → List ℕ → Said
+and_said s l = record { next = (part_said s.next l).next; text = s.text ++ (part_said s.next l).text }
 
-abbrev andRead : Read → List ℕ → Read
-andRead s l = record { next = (readPart s.next l).next; text = s.text ++ (readPart s.next l).text }
+abbrev and_read : Read → List ℕ → Read
+and_read s l = record { next = (read_part s.next l).next; text = s.text ++ (read_part s.next l).text }
 
 -- i bytes of the part are read, b is what the bench then holds, and len bytes are printed
 pub record Fed (b₀ : Bench) (part out₀ : List ℕ) (b : Bench) (len i : ℕ) (out : List ℕ) : Type 0 where
@@ -63,8 +63,8 @@ pub record Fed (b₀ : Bench) (part out₀ : List ℕ) (b : Bench) (len i : ℕ)
   pub within : i ≤ length part
   pub short : len ≤ 84 * i
   pub ready : Ready b
-  pub exact : andSaid (record { next = b; text = text }) (drop i part) ≡ partSaid b₀ part
-  pub means : andRead (record { next = readerOf b; text = text }) (drop i part) ≡ readPart (readerOf b₀) part
+  pub exact : and_said (record { next = b; text = text }) (drop i part) ≡ part_said b₀ part
+  pub means : and_read (record { next = reader_of b; text = text }) (drop i part) ≡ read_part (reader_of b₀) part
 
 module _ (b₀ : Bench) (part out₀ : List ℕ) where
   pub fed-none : Ready b₀ → Fed b₀ part out₀ b₀ 0 0 out₀
@@ -81,22 +81,22 @@ module _ (b₀ : Bench) (part out₀ : List ℕ) where
     rest = drop (i + 1) part
 
     -- where the next byte says s, or is read as s
-    said-next : i < length part → (s : Said) → byteSaid b x ≡ s
-        → record { next = (partSaid s.next rest).next; text = f.text ++ (s.text ++ (partSaid s.next rest).text) } ≡ partSaid b₀ part
-    unfolding partSaid
+    said-next : i < length part → (s : Said) → byte_said b x ≡ s
+        → record { next = (part_said s.next rest).next; text = f.text ++ (s.text ++ (part_said s.next rest).text) } ≡ part_said b₀ part
+    unfolding part_said
     said-next h s e =
-        ap (λ (s : Said). record { next = (partSaid s.next rest).next; text = f.text ++ (s.text ++ (partSaid s.next rest).text) }) (sym e)
-        ∙ ap (andSaid (record { next = b; text = f.text })) (sym (next-byte h))
+        ap (λ (s : Said). record { next = (part_said s.next rest).next; text = f.text ++ (s.text ++ (part_said s.next rest).text) }) (sym e)
+        ∙ ap (and_said (record { next = b; text = f.text })) (sym (next-byte h))
         ∙ f.exact
 
-    read_next : i < length part → (s : Read) → readByte (readerOf b) x ≡ s
-        → record { next = (readPart s.next rest).next; text = f.text ++ (s.text ++ (readPart s.next rest).text) } ≡ readPart (readerOf b₀) part
+    read_next : i < length part → (s : Read) → read_byte (reader_of b) x ≡ s
+        → record { next = (read_part s.next rest).next; text = f.text ++ (s.text ++ (read_part s.next rest).text) } ≡ read_part (reader_of b₀) part
     read_next h s e =
-        ap (λ (s : Read). record { next = (readPart s.next rest).next; text = f.text ++ (s.text ++ (readPart s.next rest).text) }) (sym e)
-        ∙ ap (andRead (record { next = readerOf b; text = f.text })) (sym (next-byte h))
+        ap (λ (s : Read). record { next = (read_part s.next rest).next; text = f.text ++ (s.text ++ (read_part s.next rest).text) }) (sym e)
+        ∙ ap (and_read (record { next = reader_of b; text = f.text })) (sym (next-byte h))
         ∙ f.means
 
-    push-ready : Ready (pushedTo b x)
+    push-ready : Ready (pushed_to b x)
     push-ready = record { desk = f.ready.desk; some = f.ready.some; most = f.ready.most; frames = f.ready.frames }
 
     -- there is room for a line
@@ -104,16 +104,16 @@ module _ (b₀ : Bench) (part out₀ : List ℕ) where
     room-left h room = rw (take_rest len out) (omega (arith, length-drop len out, f.short, f.long))
 
     -- any other byte belongs to the line
-    module _ (h : i < length part) (apart : x ≡ lineFeed → ⊥) where
-      push-said : byteSaid b x ≡ record { next = pushedTo b x; text = [] }
-      unfolding byteSaid
-      push-said = rw (ne_eqb x lineFeed apart)
+    module _ (h : i < length part) (apart : x ≡ line_feed → ⊥) where
+      push-said : byte_said b x ≡ record { next = pushed_to b x; text = [] }
+      unfolding byte_said
+      push-said = rw (ne_eqb x line_feed apart)
 
-      push-read : begunOf (pushed b.line x) ≡ longer (begunOf b.line) x → readByte (readerOf b) x ≡ record { next = readerOf (pushedTo b x); text = [] }
-      unfolding readByte
-      push-read grown = rw (ne_eqb x lineFeed apart, grown)
+      push-read : begun_of (pushed b.line x) ≡ longer (begun_of b.line) x → read_byte (reader_of b) x ≡ record { next = reader_of (pushed_to b x); text = [] }
+      unfolding read_byte
+      push-read grown = rw (ne_eqb x line_feed apart, grown)
 
-      pub fed-push : begunOf (pushed b.line x) ≡ longer (begunOf b.line) x → Fed b₀ part out₀ (pushedTo b x) len (i + 1) out
+      pub fed-push : begun_of (pushed b.line x) ≡ longer (begun_of b.line) x → Fed b₀ part out₀ (pushed_to b x) len (i + 1) out
       fed-push grown =
           record {
             text = f.text;
@@ -122,52 +122,52 @@ module _ (b₀ : Bench) (part out₀ : List ℕ) where
             within = omega arith;
             short = omega (arith, f.short);
             ready = push-ready;
-            exact = said-next h (record { next = pushedTo b x; text = [] }) push-said;
-            means = read_next h (record { next = readerOf (pushedTo b x); text = [] }) (push-read grown);
+            exact = said-next h (record { next = pushed_to b x; text = [] }) push-said;
+            means = read_next h (record { next = reader_of (pushed_to b x); text = [] }) (push-read grown);
           }
 
     -- a line feed ends it
-    module _ (h : i < length part) (ends : x ≡ lineFeed) where
-      line-said : byteSaid b x ≡ lineSaid b
-      unfolding byteSaid
-      line-said = rw (eq-eqb x lineFeed ends)
+    module _ (h : i < length part) (ends : x ≡ line_feed) where
+      line-said : byte_said b x ≡ line_said b
+      unfolding byte_said
+      line-said = rw (eq-eqb x line_feed ends)
 
-      line_read : readByte (readerOf b) x ≡ readLine (readerOf b)
-      unfolding readByte
-      line_read = rw (eq-eqb x lineFeed ends)
+      line_read : read_byte (reader_of b) x ≡ read_line (reader_of b)
+      unfolding read_byte
+      line_read = rw (eq-eqb x line_feed ends)
 
       nothing-behind : drop (length out - len) (drop len out) ≡ []
       nothing-behind = drop_of_length-le (drop len out) {i = length out - len} (omega (arith, length-drop len out))
 
       -- its text goes to what is left of the output
       pub fed-line : 84 * length part ≤ length out₀ → (r : Told) (after : List ℕ)
-          → Reads (lineSaid b) (readLine (readerOf b)) 84 (mid_of len (length out - len) out) r after
+          → Reads (line_said b) (read_line (reader_of b)) 84 (mid_of len (length out - len) out) r after
           → Fed b₀ part out₀ r.bench (len + r.len) (i + 1) (put_mid len (length out - len) out after)
       fed-line room r after t =
           record {
-            text = f.text ++ (lineSaid b).text;
+            text = f.text ++ (line_said b).text;
             printed = rw (nothing-behind, append-nil) (prints-then f.printed (rw (take_rest len out) at t.tells.text));
             long = same_len_mid len (length out - len) out after (length-printed t.tells.text (le_trans t.tells.short (room-left h room))) ∙ f.long;
             within = omega arith;
             short = omega (arith, f.short, t.tells.short);
             ready = t.tells.ready;
-            exact = rw (t.tells.next, append_assoc) (said-next h (lineSaid b) line-said);
-            means = rw (t.tells.next, append_assoc) (read_next h (asScript (lineSaid b)) (line_read ∙ sym t.means));
+            exact = rw (t.tells.next, append_assoc) (said-next h (line_said b) line-said);
+            means = rw (t.tells.next, append_assoc) (read_next h (as_script (line_said b)) (line_read ∙ sym t.means));
           }
 
-    pub fed-all : length part ≤ i → Reads (partSaid b₀ part) (readPart (readerOf b₀) part) (84 * length part) out₀ (record { bench = b; len = len }) out
-    unfolding partSaid
+    pub fed-all : length part ≤ i → Reads (part_said b₀ part) (read_part (reader_of b₀) part) (84 * length part) out₀ (record { bench = b; len = len }) out
+    unfolding part_said
     fed-all h =
         record {
           tells = record { next = ap (λ (s : Said). s.next) exact; text = rw (← ap (λ (s : Said). s.text) exact) f.printed; short = omega (arith, f.short, f.within); ready = f.ready };
-          means = ap asScript (sym exact) ∙ means;
+          means = ap as_script (sym exact) ∙ means;
         }
       where
         end : drop i part ≡ []
         end = let e : i ≡ length part = omega (arith, f.within) in rw (e, drop-length part)
 
-        exact : record { next = b; text = f.text } ≡ partSaid b₀ part
+        exact : record { next = b; text = f.text } ≡ part_said b₀ part
         exact = rw (end, append-nil) at f.exact
 
-        means : record { next = readerOf b; text = f.text } ≡ readPart (readerOf b₀) part
+        means : record { next = reader_of b; text = f.text } ≡ read_part (reader_of b₀) part
         means = rw (end, append-nil) at f.means

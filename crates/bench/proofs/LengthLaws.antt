@@ -13,28 +13,28 @@ use Rattle.rules.proofs.CallsLaws.{Passed, decide-cases}
 use Rattle.tables.specs.Rows.{part}
 use Rattle.state.specs.declared.Core.{Core}
 use Rattle.steps.specs.declared.Sending.{Sending}
-use Rattle.steps.specs.Sending.{sendingOf}
-use Rattle.steps.specs.Means.{ownFrame}
+use Rattle.steps.specs.Sending.{sending_of}
+use Rattle.steps.specs.Means.{own_frame}
 use Rattle.handing.specs.declared.Handed.{Handed}
 use Rattle.handing.specs.declared.Taken as handing
-use Rattle.handing.specs.Handing.{Given, giving, askingOf, askingChecks, notHanded, handed, requestFor, takingOf, takingChecks, notTaken, takenAt, oldestPlace, length_at}
+use Rattle.handing.specs.Handing.{Given, giving, asking_of, asking_checks, not_handed, handed, request_for, taking_of, taking_checks, not_taken, taken_at, oldest_place, length_at}
 use Rattle.unit.specs.declared.Unit.{Unit}
 use Rattle.unit.specs.declared.Sent.{Sent}
-use Rattle.unit.specs.Exact.{doneSend, refusedSend, sentBy, sentOf, taken_of}
+use Rattle.unit.specs.Exact.{done_send, refused_send, sent_by, sent_of, taken_of}
 
 -- the output stays as long as it was
-pub sent-len : (u : Unit) (d out : List ℕ) → length (sentOf u d out).output ≡ length out → (sentOf u d out).result.len ≤ length out
-unfolding sentOf sentBy
+pub sent-len : (u : Unit) (d out : List ℕ) → length (sent_of u d out).output ≡ length out → (sent_of u d out).result.len ≤ length out
+unfolding sent_of sent_by
 sent-len u d out = go (eqb s.answer 0)
   where
     s : Sending
-    s = sendingOf u.core u.acks (length d) (length out)
+    s = sending_of u.core u.acks (length d) (length out)
 
     given : Bool → Given Sent
-    given t = cond t (doneSend u d out s) (refusedSend u out s.answer)
+    given t = cond t (done_send u d out s) (refused_send u out s.answer)
 
     go : (t : Bool) → length (given t).output ≡ length out → (given t).result.len ≤ length out
-    go true e = omega (arith, length-append (ownFrame u.core s.buf d) (drop (length (ownFrame u.core s.buf d)) out))
+    go true e = omega (arith, length-append (own_frame u.core s.buf d) (drop (length (own_frame u.core s.buf d)) out))
     go false e = omega arith
 
 -- a refusal handed back no length, or the lent output was long enough
@@ -44,16 +44,16 @@ given-len {A} len checks refused done l out none enough =
     decide-cases (λ (g : Given A). len g.result ≤ length out) (λ a. record { result = refused a; output = out }) (record { result = done; output = written out l })
     checks (λ a r. omega (arith, none a)) enough
 
-pub asked-len : (c : Core) (acks : List ℕ) (k : ℕ) (out : List ℕ) → (askingOf c acks k out).result.len ≤ length out
-unfolding askingOf
+pub asked-len : (c : Core) (acks : List ℕ) (k : ℕ) (out : List ℕ) → (asking_of c acks k out).result.len ≤ length out
+unfolding asking_of
 asked-len c acks k out =
-    given-len (λ (h : Handed). h.len) (askingChecks c acks k out) notHanded (handed 0 (33 + 4 * c.n)) (encode (request (requestFor c k))) out (λ a. refl)
+    given-len (λ (h : Handed). h.len) (asking_checks c acks k out) not_handed (handed 0 (33 + 4 * c.n)) (encode (request (request_for c k))) out (λ a. refl)
     (λ passed. ltb-false _ _ passed.1.1.1.0)
 
 pub taken-len : (u : Unit) (out : List ℕ) → (taken_of u out).result.len ≤ length out
-unfolding taken_of takingOf
+unfolding taken_of taking_of
 taken-len u out =
     let c : Core = u.core in
-    let p : ℕ = oldestPlace c in
-    given-len (λ (t : handing.Taken). t.len) (takingChecks c u.acks out) (notTaken c) (takenAt c p) (part u.bytes (48 * p) (length_at c p)) out (λ a. refl)
+    let p : ℕ = oldest_place c in
+    given-len (λ (t : handing.Taken). t.len) (taking_checks c u.acks out) (not_taken c) (taken_at c p) (part u.bytes (48 * p) (length_at c p)) out (λ a. refl)
     (λ passed. ltb-false _ _ passed.1.1.0)

@@ -12,18 +12,18 @@ use Rattle.script.specs.declared.line.Line.{Line}
 use Rattle.script.specs.declared.line.Line.TheVariants.{Group, Send, Arrive, Request, Take, Unreadable}
 use Rattle.bench.specs.declared.desk.Desk.{Desk}
 use Rattle.bench.specs.declared.commands.Done.{Done}
-use Rattle.bench.specs.Desk.{deskOf, Fits}
-use Rattle.bench.specs.Commands.{ignored, actedOf, namesKnown, Named, CanHear, Acts}
+use Rattle.bench.specs.Desk.{desk_of, Fits}
+use Rattle.bench.specs.Commands.{ignored, acted_of, names_known, Named, CanHear, Acts}
 use Rattle.bench.proofs.DeskLaws.{length-frames}
 
 -- nothing is done, here and on the script's desk
 pub record Ignores (d : Desk) (c : Command) : Type 0 where
-  pub here : actedOf d c ≡ ignored d
-  pub there : act (deskOf d) c ≡ refused (deskOf d)
+  pub here : acted_of d c ≡ ignored d
+  pub there : act (desk_of d) c ≡ refused (desk_of d)
 
 module _ (d : Desk) where
-  pub names-none : (l : Line) (text : List ℕ) → namesKnown d.n d.count l ≡ false → Ignores d (said l text)
-  unfolding namesKnown actedOf
+  pub names-none : (l : Line) (text : List ℕ) → names_known d.n d.count l ≡ false → Ignores d (said l text)
+  unfolding names_known acted_of
   names-none (Group n w) text e = record { here = refl; there = refl }
   names-none (Send u len) text e = record { here = rw e; there = rw e }
   names-none (Arrive u f) text e = record { here = rw e; there = rw (length-frames d.store d.lens d.count, e) }
@@ -32,12 +32,12 @@ module _ (d : Desk) where
   names-none Unreadable text e = record { here = refl; there = refl }
 
   pub groups_none : (n w : ℕ) → Ignores d (groups n w)
-  unfolding actedOf
+  unfolding acted_of
   groups_none n w = record { here = refl; there = refl }
 
   -- what prints `?` and does nothing
   pub ignored-acts : {c : Command} {line : ℕ} {out : List ℕ} {r : Done} {out' : List ℕ} → Ignores d c → Acts d unreadable line out r out' → Acts d c line out r out'
-  unfolding actedOf
+  unfolding acted_of
   ignored-acts i a = record {
     next = a.next ∙ ap (λ x. x.desk) (sym i.here);
     text = rw i.here a.text;

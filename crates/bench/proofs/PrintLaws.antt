@@ -5,7 +5,7 @@ use native.Mathlib.Omega.{arith}
 use lib.ListN.{length, take, length-take}
 use borrow.Author.Tests.{le-leb}
 use Rattle.script.specs.Desk.{unknown, answers, took}
-use Rattle.script.specs.Print.{text, decimal, groupLine, noGroupLine, replyLine}
+use Rattle.script.specs.Print.{text, decimal, group_line, no_group_line, reply_line}
 use Rattle.script.specs.Written.{Wrote}
 use Rattle.script.proofs.PrintLaws.{length-decimal}
 use Rattle.script.proofs.WrittenLaws.{length-joined, length-joined-last, length_taken}
@@ -20,17 +20,17 @@ wrote-prints {out} {text} h w =
 ten : (x : ℕ) → x < 4294967296 → length (decimal x) ≤ 10
 ten x h = length-decimal 9 x (omega arith)
 
-pub unknown-short : (k : ℕ) → k < 4294967296 → length (replyLine k unknown) ≤ 84
-unfolding replyLine
+pub unknown-short : (k : ℕ) → k < 4294967296 → length (reply_line k unknown) ≤ 84
+unfolding reply_line
 unknown-short k h = omega (arith, ten k h, length-joined (decimal k) (text "?") [], length-joined-last (text "?"))
 
-pub answer-short : (k a : ℕ) → k < 4294967296 → a < 4294967296 → length (replyLine k (answers a)) ≤ 84
-unfolding replyLine
+pub answer-short : (k a : ℕ) → k < 4294967296 → a < 4294967296 → length (reply_line k (answers a)) ≤ 84
+unfolding reply_line
 answer-short k a h i = omega (arith, ten k h, ten a i, length-joined (decimal k) (decimal a) [], length-joined-last (decimal a))
 
 pub taken-short : (k j x n : ℕ) (l : List ℕ) → k < 4294967296 → j < 4294967296 → x < 4294967296 → n ≤ 48
-    → length (replyLine k (took j x (take n l))) ≤ 84
-unfolding replyLine
+    → length (reply_line k (took j x (take n l))) ≤ 84
+unfolding reply_line
 taken-short k j x n l h i q most =
     omega (
       arith,
@@ -42,8 +42,8 @@ taken-short k j x n l h i q most =
       length-joined (decimal k) (decimal 0) (decimal j ∷ decimal x ∷ take n l ∷ []),
     )
 
-pub group-short : (n w : ℕ) → n < 4294967296 → w < 4294967296 → length (groupLine n w) ≤ 84
-unfolding groupLine
+pub group-short : (n w : ℕ) → n < 4294967296 → w < 4294967296 → length (group_line n w) ≤ 84
+unfolding group_line
 group-short n w h i =
     omega (
       arith,
@@ -54,6 +54,6 @@ group-short n w h i =
       length-joined-last (decimal w),
     )
 
-pub no-group-short : length noGroupLine ≤ 84
-unfolding noGroupLine
+pub no-group-short : length no_group_line ≤ 84
+unfolding no_group_line
 no-group-short = omega arith

@@ -6,13 +6,13 @@ use Prim.Native.Nat.{ℕ, ◌≤◌}
 use lib.ListN.{length, take, drop}
 use lib.Seq.{take-append_seam}
 use Rattle.script.specs.Script.{printed}
-use Rattle.script.specs.Gathered.{begunOf}
-use Rattle.script.specs.Reader.{Reader, start, Read, readPart, read_parts, ends, printedParts}
-use Rattle.script.proofs.ReaderLaws.{Silent, readEach-++, readParts-flatten, printedParts-printed, over-silent}
+use Rattle.script.specs.Gathered.{begun_of}
+use Rattle.script.specs.Reader.{Reader, start, Read, read_part, read_parts, ends, printed_parts}
+use Rattle.script.proofs.ReaderLaws.{Silent, read_each-++, read_parts-flatten, printed_parts-printed, over-silent}
 use Rattle.bench.specs.declared.reading.Bench.{Bench}
 use Rattle.bench.specs.declared.reading.Told.{Told}
 use Rattle.bench.specs.Prints.{Prints}
-use Rattle.bench.specs.Reading.{readerOf, Ready, partSaid, Starts, Reads, Ends}
+use Rattle.bench.specs.Reading.{reader_of, Ready, part_said, Starts, Reads, Ends}
 use Rattle.bench.specs.Runs.{Turns, Run, none, then}
 use Rattle.bench.proofs.ReadLaws.{stage-over}
 
@@ -23,29 +23,29 @@ prints-text {text} {out} p = rw (p.count, p.bytes) (take-append_seam text (drop 
 -- one turn
 
 pub none-turns : (b : Bench) (more : Bool) → Ready b → Turns b (record { bench = b; more = more })
-unfolding partSaid
+unfolding part_said
 none-turns b more R = record { part = []; next = refl; means = refl; ready = R }
 
 pub read-turns : (b : Bench) (part : List ℕ) {out out' : List ℕ} {most : ℕ} {r : Told} (more : Bool)
-    → Reads (partSaid b part) (readPart (readerOf b) part) most out r out' → Turns b (record { bench = r.bench; more = more })
+    → Reads (part_said b part) (read_part (reader_of b) part) most out r out' → Turns b (record { bench = r.bench; more = more })
 read-turns b part more t =
     record {
       part = part;
       next = t.tells.next;
-      means = ap readerOf t.tells.next ∙ ap (λ (s : Read). s.next) t.means;
+      means = ap reader_of t.tells.next ∙ ap (λ (s : Read). s.next) t.means;
       ready = t.tells.ready;
     }
 
 -- all of them
 
 abbrev reached : Bench → List ℕ → Read
-reached b text = record { next = readerOf b; text = text }
+reached b text = record { next = reader_of b; text = text }
 
-part-reached : (b : Bench) (part : List ℕ) {out out' : List ℕ} {most : ℕ} {r : Told} → Reads (partSaid b part) (readPart (readerOf b) part) most out r out'
-    → readPart (readerOf b) part ≡ reached r.bench (take r.len out')
+part-reached : (b : Bench) (part : List ℕ) {out out' : List ℕ} {most : ℕ} {r : Told} → Reads (part_said b part) (read_part (reader_of b) part) most out r out'
+    → read_part (reader_of b) part ≡ reached r.bench (take r.len out')
 part-reached b part t = sym t.means ∙ (rw (t.tells.next, prints-text t.tells.text))
 
-run-reached : {b e : Bench} {ps : List (List ℕ)} {text : List ℕ} → Run b ps text e → read_parts (readerOf b) ps ≡ reached e text
+run-reached : {b e : Bench} {ps : List (List ℕ)} {text : List ℕ} → Run b ps text e → read_parts (reader_of b) ps ≡ reached e text
 run-reached none = refl
 run-reached (then {b} {part = part} t more) = rw (part-reached b part t, run-reached more)
 
@@ -55,25 +55,25 @@ from_start {ps = ps} s run = ap (λ (r : Reader). read_parts r ps) (sym s.means)
 module _ {b e : Bench} {ps : List (List ℕ)} {text : List ℕ} (s : Starts b) (run : Run b ps text e) where
   -- the input was read to its end
   pub ended-printed : {out out' : List ℕ} {len : ℕ} → Ends e out len out' → text ++ take len out' ≡ printed (flatten ps)
-  unfolding printedParts
+  unfolding printed_parts
   ended-printed t =
       ap (λ (l : List ℕ). text ++ l) (prints-text t.text ∙ t.means)
       ∙ sym (ap (λ (r : Read). r.text ++ ends r.next) (from_start s run))
-      ∙ printedParts-printed ps
+      ∙ printed_parts-printed ps
 
   -- no line is read any more: whatever follows, nothing is missing
   pub over-printed : 66 ≤ e.number → (more : List (List ℕ)) → text ≡ printed (flatten (ps ++ more))
-  unfolding printedParts
+  unfolding printed_parts
   over-printed h more =
       sym (rw (quiet.nothing, quiet.never) (append-nil (text ++ []) ∙ append-nil text))
       ∙ sym (ap (λ (r : Read). r.text ++ ends r.next) both)
-      ∙ printedParts-printed (ps ++ more)
+      ∙ printed_parts-printed (ps ++ more)
     where
       rest : Read
-      rest = read_parts (readerOf e) more
+      rest = read_parts (reader_of e) more
 
       both : read_parts start (ps ++ more) ≡ record { next = rest.next; text = text ++ rest.text }
-      both = readEach-++ readPart ps more start ∙ (rw (from_start s run))
+      both = read_each-++ read_part ps more start ∙ (rw (from_start s run))
 
       quiet : Silent rest
-      quiet = rw (readParts-flatten more (readerOf e), stage-over e.desk e.number h) (over-silent (flatten more) (begunOf e.line))
+      quiet = rw (read_parts-flatten more (reader_of e), stage-over e.desk e.number h) (over-silent (flatten more) (begun_of e.line))

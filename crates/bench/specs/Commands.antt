@@ -2,22 +2,22 @@
 use Rattle.std.specs.Prelude.{Bool, true, cond, ◌&&◌, List, ◌≡◌, ℕ, ◌+◌, ◌-◌, ◌<◌, ◌≤◌, min, eqb, take}
 use Rattle.rules.specs.Maps.{between}
 use Rattle.handing.specs.declared.Handed.{Handed}
-use Rattle.handing.specs.Handing.{Given, askingOf}
+use Rattle.handing.specs.Handing.{Given, asking_of}
 use Rattle.unit.specs.declared.Unit.{Unit}
 use Rattle.unit.specs.declared.Sent.{Sent}
 use Rattle.unit.specs.declared.Arrived.{Arrived}
 use Rattle.unit.specs.declared.Taken.{Taken}
-use Rattle.unit.specs.Exact.{sentOf, arrivedOf, taken_of}
+use Rattle.unit.specs.Exact.{sent_of, arrived_of, taken_of}
 use Rattle.script.specs.Items.{Command, groups, sends, arrives, requests, takes, unreadable}
 use Rattle.script.specs.Desk.{Reply, unknown, answers, took, lent, act}
 use Rattle.script.specs.Desk as script
-use Rattle.script.specs.Print.{replyLine}
+use Rattle.script.specs.Print.{reply_line}
 use Rattle.script.specs.declared.line.Line.{Line}
 use Rattle.script.specs.declared.line.Line.TheVariants.{Group, Send, Arrive, Request, Take, Unreadable}
 use Rattle.bench.specs.declared.desk.Desk.{Desk}
 use Rattle.bench.specs.declared.commands.Done.{Done}
 use Rattle.bench.specs.Prints.{longest, Prints}
-use Rattle.bench.specs.Desk.{unit_at, frameIn, deskOf, Fits, withUnit, keptIn}
+use Rattle.bench.specs.Desk.{unit_at, frame_in, desk_of, Fits, with_unit, kept_in}
 
 -- the next group, and what is printed
 pub record Acted : Type 0 where
@@ -25,32 +25,32 @@ pub record Acted : Type 0 where
   pub reply : Reply
 
 -- in the script's words
-abbrev pub asScript : Acted → script.Acted
-asScript a = record { desk = deskOf a.desk; reply = a.reply }
+abbrev pub as_script : Acted → script.Acted
+as_script a = record { desk = desk_of a.desk; reply = a.reply }
 
 abbrev pub ignored : Desk → Acted
 ignored d = record { desk = d; reply = unknown }
 
 -- ---- what the call on unit u gave
 
-abbrev pub afterSend : Desk → ℕ → Given Sent → Acted
-afterSend d u g =
+abbrev pub after_send : Desk → ℕ → Given Sent → Acted
+after_send d u g =
     let s : Sent = g.result in
-    record { desk = keptIn (withUnit d u s.unit) s.answer g.output s.len; reply = answers s.answer }
+    record { desk = kept_in (with_unit d u s.unit) s.answer g.output s.len; reply = answers s.answer }
 
-abbrev pub afterArrival : Desk → ℕ → Arrived → Acted
-afterArrival d u a = record { desk = withUnit d u a.unit; reply = answers a.answer }
+abbrev pub after_arrival : Desk → ℕ → Arrived → Acted
+after_arrival d u a = record { desk = with_unit d u a.unit; reply = answers a.answer }
 
-abbrev pub afterRequest : Desk → Given Handed → Acted
-afterRequest d g =
+abbrev pub after_request : Desk → Given Handed → Acted
+after_request d g =
     let h : Handed = g.result in
-    record { desk = keptIn d h.answer g.output h.len; reply = answers h.answer }
+    record { desk = kept_in d h.answer g.output h.len; reply = answers h.answer }
 
-abbrev pub afterTake : Desk → ℕ → Given Taken → Acted
-afterTake d u g =
+abbrev pub after_take : Desk → ℕ → Given Taken → Acted
+after_take d u g =
     let t : Taken = g.result in
     record {
-      desk = withUnit d u t.unit;
+      desk = with_unit d u t.unit;
       reply = cond (eqb t.answer 0) (took t.src t.seq (take t.len g.output)) (answers t.answer);
     }
 
@@ -58,27 +58,27 @@ afterTake d u g =
 
 -- a number past 255 names no unit, as 255 does
 abbrev pub asked : Unit → ℕ → Given Handed
-asked x k = askingOf x.core x.acks (min k 255) (lent 117)
+asked x k = asking_of x.core x.acks (min k 255) (lent 117)
 
-unfoldable pub actedOf : Desk → Command → Acted
-actedOf d (groups n w) = ignored d
-actedOf d (sends u word) = cond (between 1 d.n u) (afterSend d u (sentOf (unit_at d u) word (lent 117))) (ignored d)
-actedOf d (arrives u f) =
+unfoldable pub acted_of : Desk → Command → Acted
+acted_of d (groups n w) = ignored d
+acted_of d (sends u word) = cond (between 1 d.n u) (after_send d u (sent_of (unit_at d u) word (lent 117))) (ignored d)
+acted_of d (arrives u f) =
     cond (between 1 d.n u && between 1 d.count f)
-    (afterArrival d u (arrivedOf (unit_at d u) (frameIn d.store d.lens (f - 1))))
+    (after_arrival d u (arrived_of (unit_at d u) (frame_in d.store d.lens (f - 1))))
     (ignored d)
-actedOf d (requests u k) = cond (between 1 d.n u) (afterRequest d (asked (unit_at d u) k)) (ignored d)
-actedOf d (takes u) = cond (between 1 d.n u) (afterTake d u (taken_of (unit_at d u) (lent 48))) (ignored d)
-actedOf d unreadable = ignored d
+acted_of d (requests u k) = cond (between 1 d.n u) (after_request d (asked (unit_at d u) k)) (ignored d)
+acted_of d (takes u) = cond (between 1 d.n u) (after_take d u (taken_of (unit_at d u) (lent 48))) (ignored d)
+acted_of d unreadable = ignored d
 
 -- the unit and the frame that a line names exist; there are n units and so many frames
-unfoldable pub namesKnown : ℕ → ℕ → Line → Bool
-namesKnown n count (Group m w) = true
-namesKnown n count (Send u len) = between 1 n u
-namesKnown n count (Arrive u f) = between 1 n u && between 1 count f
-namesKnown n count (Request u k) = between 1 n u
-namesKnown n count (Take u) = between 1 n u
-namesKnown n count Unreadable = true
+unfoldable pub names_known : ℕ → ℕ → Line → Bool
+names_known n count (Group m w) = true
+names_known n count (Send u len) = between 1 n u
+names_known n count (Arrive u f) = between 1 n u && between 1 count f
+names_known n count (Request u k) = between 1 n u
+names_known n count (Take u) = between 1 n u
+names_known n count Unreadable = true
 
 -- unit u of the group
 pub record Named (d : Desk) (u : ℕ) : Type 0 where
@@ -103,9 +103,9 @@ pub record CanAct (d : Desk) : Type 0 where
 
 -- `next` and `text` determine the result and every byte of the output; the others say what that means
 pub record Acts (d : Desk) (c : Command) (line : ℕ) (out : List ℕ) (r : Done) (out' : List ℕ) : Type 0 where
-  pub next : r.desk ≡ (actedOf d c).desk
-  pub text : Prints (replyLine line (actedOf d c).reply) out r.len out'
+  pub next : r.desk ≡ (acted_of d c).desk
+  pub text : Prints (reply_line line (acted_of d c).reply) out r.len out'
   pub short : r.len ≤ longest
-  pub means : asScript (actedOf d c) ≡ act (deskOf d) c
+  pub means : as_script (acted_of d c) ≡ act (desk_of d) c
   pub fits : Fits r.desk
   pub more : r.desk.count ≤ d.count + 1

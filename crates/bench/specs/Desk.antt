@@ -13,8 +13,8 @@ use Rattle.bench.specs.declared.desk.Desk.{Desk}
 -- ---- what it shows
 
 -- what the code reads past the third unit: it never does
-abbrev pub noUnit : Unit
-noUnit =
+abbrev pub no_unit : Unit
+no_unit =
     record {
       core = record {
         me = 0;
@@ -37,23 +37,23 @@ noUnit =
     }
 
 abbrev pub unit_at : Desk → ℕ → Unit
-unit_at d u = get_or d.units (u - 1) noUnit
+unit_at d u = get_or d.units (u - 1) no_unit
 
 -- there are three; what is no unit is closed
-unfoldable pub unitsOf : List Unit → ℕ → State
-unitsOf l u = cond (between 1 3 u) (view (get_or l (u - 1) noUnit)) closed
+unfoldable pub units_of : List Unit → ℕ → State
+units_of l u = cond (between 1 3 u) (view (get_or l (u - 1) no_unit)) closed
 
 -- the frame in slot i of the store
-abbrev pub frameIn : List ℕ → List ℕ → ℕ → List ℕ
-frameIn store lens i = part store (117 * i) (get_or lens i 0)
+abbrev pub frame_in : List ℕ → List ℕ → ℕ → List ℕ
+frame_in store lens i = part store (117 * i) (get_or lens i 0)
 
 -- the first frames, so many of them
-unfoldable pub framesIn : List ℕ → List ℕ → ℕ → List (List ℕ)
-framesIn store lens zero = []
-framesIn store lens (suc i) = framesIn store lens i ++ (frameIn store lens i ∷ [])
+unfoldable pub frames_in : List ℕ → List ℕ → ℕ → List (List ℕ)
+frames_in store lens zero = []
+frames_in store lens (suc i) = frames_in store lens i ++ (frame_in store lens i ∷ [])
 
-abbrev pub deskOf : Desk → script.Desk
-deskOf d = record { n = d.n; units = unitsOf d.units; frames = framesIn d.store d.lens d.count }
+abbrev pub desk_of : Desk → script.Desk
+desk_of d = record { n = d.n; units = units_of d.units; frames = frames_in d.store d.lens d.count }
 
 -- at most three units and 64 frames, and each frame within its slot
 pub record Fits (d : Desk) : Type 0 where
@@ -64,14 +64,14 @@ pub record Fits (d : Desk) : Type 0 where
 -- ---- opened
 
 -- unit `me`, with CID 1 and first numbers 1
-unfoldable pub startedUnit : ℕ → ℕ → ℕ → Unit
-startedUnit me n w = (opened_of (record { me = me; n = n; w = w; cid = 1; first = replicate 8 1 })).unit
+unfoldable pub started_unit : ℕ → ℕ → ℕ → Unit
+started_unit me n w = (opened_of (record { me = me; n = n; w = w; cid = 1; first = replicate 8 1 })).unit
 
-unfoldable pub startedDesk : ℕ → ℕ → Desk
-startedDesk n w =
+unfoldable pub started_desk : ℕ → ℕ → Desk
+started_desk n w =
     record {
       n = n;
-      units = startedUnit 1 n w ∷ startedUnit 2 n w ∷ startedUnit 3 n w ∷ [];
+      units = started_unit 1 n w ∷ started_unit 2 n w ∷ started_unit 3 n w ∷ [];
       store = replicate 7488 0;
       lens = replicate 64 0;
       count = 0;
@@ -79,12 +79,12 @@ startedDesk n w =
 
 -- ---- with another unit, and with a frame more
 
-abbrev pub withUnit : Desk → ℕ → Unit → Desk
-withUnit d u x = record { n = d.n; units = set d.units (u - 1) x; store = d.store; lens = d.lens; count = d.count }
+abbrev pub with_unit : Desk → ℕ → Unit → Desk
+with_unit d u x = record { n = d.n; units = set d.units (u - 1) x; store = d.store; lens = d.lens; count = d.count }
 
 -- the frame is the first len bytes of these; they stand in its slot
-abbrev pub withFrame : Desk → List ℕ → ℕ → Desk
-withFrame d l len =
+abbrev pub with_frame : Desk → List ℕ → ℕ → Desk
+with_frame d l len =
     record {
       n = d.n;
       units = d.units;
@@ -94,5 +94,5 @@ withFrame d l len =
     }
 
 -- where a call answered 0, what it wrote is the next frame
-unfoldable pub keptIn : Desk → ℕ → List ℕ → ℕ → Desk
-keptIn d answer l len = cond (eqb answer 0) (withFrame d l len) d
+unfoldable pub kept_in : Desk → ℕ → List ℕ → ℕ → Desk
+kept_in d answer l len = cond (eqb answer 0) (with_frame d l len) d

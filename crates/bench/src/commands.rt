@@ -4,7 +4,7 @@ ghost use Rattle.rules.specs.Maps.{between};
 ghost use Rattle.script.specs.Items.{sends, arrives, requests, takes, unreadable};
 ghost use Rattle.script.specs.Shown.{said};
 ghost use Rattle.bench.specs.Desk.{Fits};
-ghost use Rattle.bench.specs.Commands.{Named, CanWrite, CanHear, CanAct, namesKnown, Acts};
+ghost use Rattle.bench.specs.Commands.{Named, CanWrite, CanHear, CanAct, names_known, Acts};
 
 use crate::desk::Desk;
 use script::line::Line;
@@ -30,7 +30,7 @@ fn counted(x: u32, most: usize) -> bool
 
 // There are n units and so many frames: the unit and the frame that a line names exist.
 fn names(n: u8, count: usize, shown: Line) -> bool
-    ensures { result ≡ namesKnown n count shown }
+    ensures { result ≡ names_known n count shown }
 {
     match shown {
         Line::Send { unit, len: _ } => counted(unit, n as usize),

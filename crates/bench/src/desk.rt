@@ -1,7 +1,7 @@
 // The group on the bench: its units, and the frames written so far.
 ghost use Rattle.std.specs.Prelude.{◌≡◌, ◌*◌, ◌<◌};
 ghost use Rattle.std.proofs.lemmas.List.Edits.{sets};
-ghost use Rattle.bench.specs.Desk.{startedUnit, startedDesk, keptIn};
+ghost use Rattle.bench.specs.Desk.{started_unit, started_desk, kept_in};
 
 use state::Opening;
 use tables;
@@ -19,7 +19,7 @@ pub struct Desk {
 
 // Unit `me` of a group: CID 1, first numbers 1; closed where there is no such unit.
 fn opened_unit(me: u8, n: u8, w: u8) -> Unit
-    ensures { result ≡ startedUnit me n w }
+    ensures { result ≡ started_unit me n w }
 {
     let o = Unit::open(Opening {
         me,
@@ -48,7 +48,7 @@ impl Desk {
 
     // A group of n units with window w, and no frame yet.
     pub fn open(n: u8, w: u8) -> Self
-        ensures { result ≡ startedDesk n w }
+        ensures { result ≡ started_desk n w }
     {
         let a = opened_unit(1, n, w);
         let b = opened_unit(2, n, w);
@@ -65,7 +65,7 @@ impl Desk {
     // Where a call answered 0, the len bytes that it wrote are the next frame.
     pub fn keep(mut self, answer: u32, frame: &[u8], len: usize) -> Self
         requires { self.count < 64 }
-        ensures { result ≡ keptIn self answer frame.now len }
+        ensures { result ≡ kept_in self answer frame.now len }
     {
         if answer != 0 {
             return self;

@@ -1,8 +1,8 @@
 // The script as it is read, byte by byte: the line that is not ended yet, the group, and which line is to come.
 ghost use Rattle.std.specs.Prelude.{◌*◌, ◌≤◌, length};
-ghost use Rattle.script.specs.Shown.{groupIn};
-ghost use Rattle.script.specs.Reader.{readLine, readPart};
-ghost use Rattle.bench.specs.Reading.{Ready, readerOf, beginsWith, lineSaid, partSaid, Tells, Starts, Reads, Ends};
+ghost use Rattle.script.specs.Shown.{group_in};
+ghost use Rattle.script.specs.Reader.{read_line, read_part};
+ghost use Rattle.bench.specs.Reading.{Ready, reader_of, begins_with, line_said, part_said, Tells, Starts, Reads, Ends};
 
 use crate::commands;
 use crate::desk::Desk;
@@ -28,7 +28,7 @@ pub struct Told {
 // The first line has ended.
 fn begin(shown: Line, out: &mut [u8]) -> Told
     requires { 84 ≤ length out.old }
-    ensures { Tells (beginsWith (groupIn shown)) 84 out.old result out.new }
+    ensures { Tells (begins_with (group_in shown)) 84 out.old result out.new }
 {
     let Group::Of { n, w } = line::group_of(shown) else {
         return Told {
@@ -70,7 +70,7 @@ impl Bench {
     // The line has ended: what it prints stands at the front of the output.
     fn end_line(self, out: &mut [u8]) -> Told
         requires { Ready self × (84 ≤ length out.old) }
-        ensures { Reads (lineSaid self) (readLine (readerOf self)) 84 out.old result out.new }
+        ensures { Reads (line_said self) (read_line (reader_of self)) 84 out.old result out.new }
     {
         let c = self.line;
         let shown = c.read();
@@ -106,7 +106,7 @@ impl Bench {
     // A part of the input is read: what it prints stands at the front of the output.
     pub fn feed(self, part: &[u8], out: &mut [u8]) -> Told
         requires { Ready self × (84 * length part.now ≤ length out.old) }
-        ensures { Reads (partSaid self part.now) (readPart (readerOf self) part.now) (84 * length part.now) out.old result out.new }
+        ensures { Reads (part_said self part.now) (read_part (reader_of self) part.now) (84 * length part.now) out.old result out.new }
     {
         let mut b = self;
         let mut len = 0;

@@ -3,7 +3,7 @@ use Rattle.std.specs.Prelude.{Bool, true, false, cond, List, [], ◌∷◌, ℕ,
 use Rattle.handing.specs.Handing.{Given}
 use Rattle.unit.specs.declared.Unit.{Unit}
 use Rattle.unit.specs.declared.Taken.{Taken}
-use Rattle.unit.specs.Exact.{opened_of, sentOf, arrivedOf, taken_of}
+use Rattle.unit.specs.Exact.{opened_of, sent_of, arrived_of, taken_of}
 use Rattle.drive.specs.declared.Summed.{Summed}
 
 -- ---- sums, modulo 2^32
@@ -11,36 +11,36 @@ use Rattle.drive.specs.declared.Summed.{Summed}
 abbrev pub mixed : ℕ → ℕ → ℕ
 mixed s x = (3 * s + x % 4294967296) % 4294967296
 
-abbrev pub withBytes : ℕ → List ℕ → ℕ
-withBytes s [] = s
-withBytes s (x ∷ l) = withBytes (mixed s x) l
+abbrev pub with_bytes : ℕ → List ℕ → ℕ
+with_bytes s [] = s
+with_bytes s (x ∷ l) = with_bytes (mixed s x) l
 
-abbrev pub withMessage : ℕ → ℕ → ℕ → ℕ → List ℕ → ℕ
-withMessage s src seq len out = withBytes (mixed (mixed (mixed s src) seq) len) out
+abbrev pub with_message : ℕ → ℕ → ℕ → ℕ → List ℕ → ℕ
+with_message s src seq len out = with_bytes (mixed (mixed (mixed s src) seq) len) out
 
 -- ---- taking
 
 -- the message g of a take goes into the sum, and so do those after it, at most so many
-unfoldable pub allTaken : ℕ → Given Taken → ℕ → Summed
-allTaken zero g s = record { sum = s; unit = g.result.unit }
-allTaken (suc m) g s =
+unfoldable pub all_taken : ℕ → Given Taken → ℕ → Summed
+all_taken zero g s = record { sum = s; unit = g.result.unit }
+all_taken (suc m) g s =
     let t : Taken = g.result in
     cond (eqb t.answer 0)
-    (allTaken m (taken_of t.unit g.output) (withMessage s t.src t.seq t.len g.output))
+    (all_taken m (taken_of t.unit g.output) (with_message s t.src t.seq t.len g.output))
     (record { sum = s; unit = t.unit })
 
 -- everything that u may show
 abbrev pub shown : Unit → ℕ → Summed
-shown u s = allTaken 128 (taken_of u (replicate 16 0)) s
+shown u s = all_taken 128 (taken_of u (replicate 16 0)) s
 
 -- ---- a visit
 
 -- u sends the data, or the first len bytes of the frame arrive at u; the frame is the output
-unfoldable pub visitOf : Unit → Bool → List ℕ → List ℕ → ℕ → ℕ → Given Summed
-visitOf u true text frame len s =
-    record { result = shown (sentOf u text frame).result.unit s; output = (sentOf u text frame).output }
-visitOf u false text frame len s =
-    record { result = shown (arrivedOf u (take len frame)).unit s; output = frame }
+unfoldable pub visit_of : Unit → Bool → List ℕ → List ℕ → ℕ → ℕ → Given Summed
+visit_of u true text frame len s =
+    record { result = shown (sent_of u text frame).result.unit s; output = (sent_of u text frame).output }
+visit_of u false text frame len s =
+    record { result = shown (arrived_of u (take len frame)).unit s; output = frame }
 
 -- ---- a run
 
@@ -49,9 +49,9 @@ abbrev pub unit_of : ℕ → ℕ → ℕ → Unit
 unit_of n w k = (opened_of (record { me = k; n = n; w = w; cid = 1; first = replicate 8 1 })).unit
 
 -- eight units, the first k of them opened in turn
-abbrev pub openedUnits : ℕ → ℕ → ℕ → List Unit
-openedUnits n w zero = replicate 8 (unit_of n w 0)
-openedUnits n w (suc k) = set (openedUnits n w k) k (unit_of n w (k + 1))
+abbrev pub opened_units : ℕ → ℕ → ℕ → List Unit
+opened_units n w zero = replicate 8 (unit_of n w 0)
+opened_units n w (suc k) = set (opened_units n w k) k (unit_of n w (k + 1))
 
 pub record Group : Type 0 where
   pub units : List Unit
@@ -64,15 +64,15 @@ abbrev pub unit_at : ℕ → ℕ → ℕ
 unit_at n i = (i / n + i % n) % n
 
 -- visit i of a group of n
-abbrev pub visitedAt : ℕ → ℕ → ℕ → Group → Group
-visitedAt n w i g =
+abbrev pub visited_at : ℕ → ℕ → ℕ → Group → Group
+visited_at n w i g =
     let m : ℕ = i / n in
     let k : ℕ = unit_at n i in
     let text : List ℕ = set g.text (m % 16) (m % 256) in
-    let v : Given Summed = visitOf (get_or g.units k (unit_of n w 0)) (eqb (i % n) 0) text g.frame (53 + 4 * n) g.sum in
+    let v : Given Summed = visit_of (get_or g.units k (unit_of n w 0)) (eqb (i % n) 0) text g.frame (53 + 4 * n) g.sum in
     record { units = set g.units k v.result.unit; text = text; frame = v.output; sum = v.result.sum }
 
 -- the group after so many visits
 unfoldable pub run_of : ℕ → ℕ → ℕ → Group
-run_of n w zero = record { units = openedUnits n w 8; text = replicate 16 0; frame = replicate 117 0; sum = 0 }
-run_of n w (suc i) = visitedAt n w i (run_of n w i)
+run_of n w zero = record { units = opened_units n w 8; text = replicate 16 0; frame = replicate 117 0; sum = 0 }
+run_of n w (suc i) = visited_at n w i (run_of n w i)

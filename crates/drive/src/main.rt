@@ -2,7 +2,7 @@
 // Standard input: n, W and the number of messages, as `3 4 100`. Prints a sum over what was taken.
 ghost use Rattle.std.specs.Prelude.{◌≡◌, ◌*◌, ◌<◌, ◌≤◌, length};
 ghost use Rattle.handing.specs.Handing.{Gives};
-ghost use Rattle.drive.specs.Run.{mixed, withBytes, withMessage, shown, visitOf, openedUnits, unit_at, run_of};
+ghost use Rattle.drive.specs.Run.{mixed, with_bytes, with_message, shown, visit_of, opened_units, unit_at, run_of};
 
 use script::{Value, number};
 use state::Opening;
@@ -23,7 +23,7 @@ fn mixed(sum: u32, x: usize) -> u32
 }
 
 fn with_bytes(before: u32, s: &[u8]) -> u32
-    ensures { result ≡ withBytes before s.now }
+    ensures { result ≡ with_bytes before s.now }
 {
     let mut sum = before;
     let mut i = 0;
@@ -36,7 +36,7 @@ fn with_bytes(before: u32, s: &[u8]) -> u32
 
 // The sum, continued with a message: its sender, its number, the length of its data, and the output that they stand in.
 fn with_message(sum: u32, src: u8, seq: u32, len: usize, out: &[u8]) -> u32
-    ensures { result ≡ withMessage sum src seq len out.now }
+    ensures { result ≡ with_message sum src seq len out.now }
 {
     with_bytes(
         mixed(mixed(mixed(sum, src as usize), seq as usize), len),
@@ -69,7 +69,7 @@ fn all_taken(first: Unit, before: u32) -> Summed
 // The unit sends the data, or the frame arrives there, and everything is taken.
 fn visited(u: Unit, sends: bool, text: &[u8], frame: &mut [u8], len: usize, sum: u32) -> Summed
     requires { len ≤ length frame.old }
-    ensures { Gives (visitOf u sends text.now frame.old len sum) result frame.new }
+    ensures { Gives (visit_of u sends text.now frame.old len sum) result frame.new }
 {
     if sends {
         let s = u.send(text, frame);
@@ -83,7 +83,7 @@ fn visited(u: Unit, sends: bool, text: &[u8], frame: &mut [u8], len: usize, sum:
 
 // Eight units, of which the first n are open.
 fn opened(n: u8, w: u8) -> [Unit; Unit::MOST_UNITS]
-    ensures { result ≡ openedUnits n w 8 }
+    ensures { result ≡ opened_units n w 8 }
 {
     let none = Unit::open(Opening {
         me: 0,

@@ -7,8 +7,8 @@ use Rattle.rules.specs.Fields.{table, row_of}
 use Rattle.rules.specs.Message.{decode}
 use Rattle.frame.specs.declared.Frame.{Frame}
 use Rattle.frame.specs.declared.table.Row.{Row}
-use Rattle.frame.specs.Table.{line_of, has, lengthFits}
-use Rattle.frame.specs.Frame.{frame_of, payloadOf}
+use Rattle.frame.specs.Table.{line_of, has, length_fits}
+use Rattle.frame.specs.Frame.{frame_of, payload_of}
 use Rattle.frame.specs.Export.{Exported}
 
 one_value : {A : Type 0} {r q x : A} → r ≡ x → q ≡ x → r ≡ q
@@ -18,7 +18,7 @@ pub read-determined : (l : List ℕ) (r q : Frame) → r ≡ frame_of (decode l)
 read-determined l r q a b = one_value a b
 
 -- the bytes of the part that is shown
-pub payload-determined : (l r q : List ℕ) → r ≡ payloadOf (decode l) → q ≡ payloadOf (decode l) → r ≡ q
+pub payload-determined : (l r q : List ℕ) → r ≡ payload_of (decode l) → q ≡ payload_of (decode l) → r ≡ q
 payload-determined l r q a b = one_value a b
 
 pub row-of-determined : (t : ℕ) (r q : Row) → r ≡ line_of (row_of table t) → q ≡ line_of (row_of table t) → r ≡ q
@@ -27,7 +27,7 @@ row-of-determined t r q a b = one_value a b
 pub has-tag-determined : (t k : ℕ) (r q : Bool) → r ≡ has t k → q ≡ has t k → r ≡ q
 has-tag-determined t k r q a b = one_value a b
 
-pub length-fits-determined : (t n : ℕ) (r q : Bool) → r ≡ lengthFits t n → q ≡ lengthFits t n → r ≡ q
+pub length-fits-determined : (t n : ℕ) (r q : Bool) → r ≡ length_fits t n → q ≡ length_fits t n → r ≡ q
 length-fits-determined t n r q a b = one_value a b
 
 -- the answer, and every number of the lent output

@@ -8,12 +8,12 @@ use native.Mathlib.Omega.{arith}
 use lib.ListN.{length, drop, length-append}
 use lib.Seq.{sets}
 use borrow.Author.Tests.{ne_eqb, eq-eqb, lt-ltb, le-ltb}
-use Rattle.rules.specs.Message.{Said, message, request, asMessage, asRequest, decode}
+use Rattle.rules.specs.Message.{Said, message, request, as_message, as_request, decode}
 use Rattle.rules.specs.Calls.{written}
-use Rattle.rules.proofs.BytesLaws.{length-allNumbers}
+use Rattle.rules.proofs.BytesLaws.{length-all_numbers}
 use Rattle.rules.proofs.MessageLaws.{Read, decode-read}
 use Rattle.frame.specs.declared.Frame.{Frame}
-use Rattle.frame.specs.Acks.{countAt}
+use Rattle.frame.specs.Acks.{count_at}
 use Rattle.frame.specs.Frame.{frame_of}
 use Rattle.frame.specs.Export.{handed, exported, Exported}
 use Rattle.frame.proofs.Numbers.{length-eight}
@@ -39,22 +39,22 @@ module _ (d d₁ d₂ d₃ : List ℕ) (f : Frame) (h : length f.ack ≡ 8) wher
 
 -- ---- co_read_frame
 
-abbrev ackOf : Said → List ℕ
-ackOf (message m) = m.ack
-ackOf (request r) = r.ack
+abbrev ack_of : Said → List ℕ
+ack_of (message m) = m.ack
+ack_of (request r) = r.ack
 
-few : (l : List ℕ) (x : Said) → decode l ≡ some x → length (ackOf x) ≤ 8
+few : (l : List ℕ) (x : Said) → decode l ≡ some x → length (ack_of x) ≤ 8
 few l x h = ⊎_elim from-message from-request (decode-read l x h)
   where
-    from-message : Read 1 asMessage l x → length (ackOf x) ≤ 8
+    from-message : Read 1 as_message l x → length (ack_of x) ≤ 8
     from-message r =
-        subst (λ y. length (ackOf y) ≤ 8) (sym (message-is l r.fit) ∙ r.same)
-        (omega (arith, length-allNumbers 4 (countAt l 27) (drop 29 l), (data-at l r.fit).few))
+        subst (λ y. length (ack_of y) ≤ 8) (sym (message-is l r.fit) ∙ r.same)
+        (omega (arith, length-all_numbers 4 (count_at l 27) (drop 29 l), (data-at l r.fit).few))
 
-    from-request : Read 2 asRequest l x → length (ackOf x) ≤ 8
+    from-request : Read 2 as_request l x → length (ack_of x) ≤ 8
     from-request r =
-        subst (λ y. length (ackOf y) ≤ 8) (sym (request-is l r.fit) ∙ r.same)
-        (omega (arith, length-allNumbers 4 (countAt l 20) (drop 22 l), (request-at l r.fit).few))
+        subst (λ y. length (ack_of y) ≤ 8) (sym (request-is l r.fit) ∙ r.same)
+        (omega (arith, length-all_numbers 4 (count_at l 20) (drop 22 l), (request-at l r.fit).few))
 
 eight-acks : (l : List ℕ) (o : Option Said) → decode l ≡ o → length (frame_of o).ack ≡ 8
 unfolding frame_of

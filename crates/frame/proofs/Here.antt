@@ -11,10 +11,10 @@ use lib.ListN.{length, get_or, take, drop, length-drop}
 use lib.Seq.{get_or-drop, drop-drop}
 use borrow.Author.Tests.{leb-true, eqb-true, le-leb, eq-eqb}
 use Rattle.rules.specs.Bytes.{number}
-use Rattle.rules.specs.Fields.{table, length_of, fieldFits}
+use Rattle.rules.specs.Fields.{table, length_of, field_fits}
 use Rattle.rules.proofs.MapsLaws.{and_both, not-true}
 use Rattle.rules.proofs.FieldsLaws.{is_field, field_is}
-use Rattle.frame.specs.Table.{lengthFits}
+use Rattle.frame.specs.Table.{length_fits}
 use Rattle.frame.specs.Field.{no_field, field_at, part_at}
 
 -- the length that the field at p says
@@ -24,7 +24,7 @@ length_at l p = number (take 2 (drop (p + 1) l))
 pub record Here (l : List ℕ) (p t : ℕ) : Type 0 where
   pub long : p + 3 ≤ length l
   pub tag : get_or l p 0 ≡ t
-  pub fit : lengthFits t (length_at l p) ≡ true
+  pub fit : length_fits t (length_at l p) ≡ true
   pub inside : p + 3 + length_at l p ≤ length l
 
 pub length-here : (l : List ℕ) (p : ℕ) → length_of (drop p l) ≡ length_at l p
@@ -34,8 +34,8 @@ module _ (l : List ℕ) (p t : ℕ) where
   tag-here : get_or (drop p l) 0 0 ≡ get_or l p 0
   tag-here = get_or-drop p l 0 0 ∙ ap (λ k. get_or l k 0) (add-zero p)
 
-  pub here : fieldFits table t (drop p l) ≡ true → Here l p t
-  unfolding lengthFits
+  pub here : field_fits table t (drop p l) ≡ true → Here l p t
+  unfolding length_fits
   here h =
       let f = is_field table t (drop p l) h in
       let e = length-here l p in
@@ -47,8 +47,8 @@ module _ (l : List ℕ) (p t : ℕ) where
         inside = omega (arith, f.long, f.inside);
       }
 
-  pub is-here : Here l p t → fieldFits table t (drop p l) ≡ true
-  unfolding lengthFits
+  pub is-here : Here l p t → field_fits table t (drop p l) ≡ true
+  unfolding length_fits
   is-here f =
       let e = length-here l p in
       let n = length-drop p l in
@@ -66,7 +66,7 @@ module _ (l : List ℕ) (p t : ℕ) where
 
   no-field : (Here l p t → ⊥) → no_field ≡ field_at l p t
   unfolding field_at
-  no-field h = rw (not-true (fieldFits table t (drop p l)) (λ e. h (here e)))
+  no-field h = rw (not-true (field_fits table t (drop p l)) (λ e. h (here e)))
 
   pub short-slice : length l < 3 → no_field ≡ field_at l p t
   short-slice h = no-field (λ (f : Here l p t). omega arith)
@@ -78,13 +78,13 @@ module _ (l : List ℕ) (p t : ℕ) where
   other_tag h = no-field (λ (f : Here l p t). h f.tag)
 
   module _ (n : ℕ) (e : n ≡ length_at l p) where
-    pub other_length : lengthFits t n ≡ false → no_field ≡ field_at l p t
-    other_length h = no-field (λ (f : Here l p t). false≢true (sym h ∙ ap (lengthFits t) e ∙ f.fit))
+    pub other_length : length_fits t n ≡ false → no_field ≡ field_at l p t
+    other_length h = no-field (λ (f : Here l p t). false≢true (sym h ∙ ap (length_fits t) e ∙ f.fit))
 
     pub cut : 3 ≤ length l → p ≤ length l - 3 → length l - (p + 3) < n → no_field ≡ field_at l p t
     cut a b h = no-field (λ (f : Here l p t). omega arith)
 
-    pub a-field : 3 ≤ length l → p ≤ length l - 3 → get_or l p 0 ≡ t → lengthFits t n ≡ true → n ≤ length l - (p + 3)
+    pub a-field : 3 ≤ length l → p ≤ length l - 3 → get_or l p 0 ≡ t → length_fits t n ≡ true → n ≤ length l - (p + 3)
         → record { ok = true; start = p + 3; end = p + 3 + n } ≡ field_at l p t
     unfolding field_at
     a-field a b tag fit inside =

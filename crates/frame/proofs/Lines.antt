@@ -11,10 +11,10 @@ use borrow.Author.Tests.{ne_eqb, le-leb, lt-leb}
 use Rattle.rules.specs.Maps.{between, all, among}
 use Rattle.rules.specs.Fields.{Row as Line, no_row, table, row_of}
 use Rattle.rules.proofs.MapsLaws.{and_both, between-low, between-high}
-use Rattle.rules.proofs.FieldsLaws.{all-rowOf, rowOf-line, usable-rowOf, tagsLeft, tagsLeft-step, tagsLeft-end}
+use Rattle.rules.proofs.FieldsLaws.{all-row_of, row_of-line, usable-row_of, tags_left, tags_left-step, tags_left-end}
 use Rattle.rules.proofs.MessageLaws.{table-usable}
 use Rattle.frame.specs.declared.table.Row.{Row}
-use Rattle.frame.specs.Table.{line_of, has, lengthFits}
+use Rattle.frame.specs.Table.{line_of, has, length_fits}
 
 get_d_any : (l : List Row) (i : ℕ) (d e : Row) → i < length l → get_or l i d ≡ get_or l i e
 get_d_any [] i d e h = absurd (omega arith)
@@ -26,19 +26,19 @@ unfolding table
 row-of-tag t d low high =
     get_d_any (map line_of table) (t - 1) d (line_of no_row) (omega arith)
     ∙ get_or-map line_of table (t - 1) no_row
-    ∙ ap line_of (sym (rowOf-line table t low))
+    ∙ ap line_of (sym (row_of-line table t low))
 
 pub row-past : (t : ℕ) → 10 < t → line_of no_row ≡ line_of (row_of table t)
 unfolding table
-row-past t h = ap line_of (sym (rowOf-line table t (omega arith) ∙ get_or-eq_default table no_row {n = t - 1} (omega arith)))
+row-past t h = ap line_of (sym (row_of-line table t (omega arith) ∙ get_or-eq_default table no_row {n = t - 1} (omega arith)))
 
 -- the test of a table: each kind is 1 or 2
-abbrev twoKinds : Line → Bool
-twoKinds r = all (between 1 2) r.kinds
+abbrev two_kinds : Line → Bool
+two_kinds r = all (between 1 2) r.kinds
 
-table-twoKinds : all twoKinds table ≡ true
+table-two_kinds : all two_kinds table ≡ true
 unfolding table between
-table-twoKinds = refl
+table-two_kinds = refl
 
 among-no-other : (k : ℕ) (l : List ℕ) → all (between 1 2) l ≡ true → k ≢ 1 → k ≢ 2 → among k l ≡ false
 among-no-other k [] h a b = refl
@@ -59,7 +59,7 @@ module _ (t : ℕ) where
 
   pub has-no-other : (k : ℕ) → k ≢ 1 → k ≢ 2 → has t k ≡ false
   unfolding has
-  has-no-other k a b = among-no-other k (row_of table t).kinds (all-rowOf twoKinds refl table table-twoKinds t) a b
+  has-no-other k a b = among-no-other k (row_of table t).kinds (all-row_of two_kinds refl table table-two_kinds t) a b
 
 -- ---- a loop over the table's tags
 
@@ -69,13 +69,13 @@ ten = refl
 
 module _ (t k : ℕ) where
   pub tags-step : 1 ≤ t → t ≤ 10 → (b : Bool) → has t k ≡ b
-      → tagsLeft table t k ≡ cond b (t ∷ tagsLeft table (t + 1) k) (tagsLeft table (t + 1) k)
+      → tags_left table t k ≡ cond b (t ∷ tags_left table (t + 1) k) (tags_left table (t + 1) k)
   unfolding has
   tags-step low high b e =
-      tagsLeft-step table t k low (omega (arith, ten)) ∙ ap (λ b. cond b (t ∷ tagsLeft table (t + 1) k) (tagsLeft table (t + 1) k)) e
+      tags_left-step table t k low (omega (arith, ten)) ∙ ap (λ b. cond b (t ∷ tags_left table (t + 1) k) (tags_left table (t + 1) k)) e
 
-  pub tags-end : t ≡ 11 → tagsLeft table t k ≡ []
-  tags-end e = tagsLeft-end table t k (omega (arith, ten))
+  pub tags-end : t ≡ 11 → tags_left table t k ≡ []
+  tags-end e = tags_left-end table t k (omega (arith, ten))
 
 -- ---- the ways out of `length_fits`
 
@@ -90,17 +90,17 @@ module _ (t n : ℕ) (r : Row) (e : r ≡ line_of (row_of table t)) where
   width_is = ap (λ (x : Row). x.width) e
 
   pub width_positive : 0 < r.width
-  width_positive = omega (arith, width_is, (usable-rowOf table table-usable t).width)
+  width_positive = omega (arith, width_is, (usable-row_of table table-usable t).width)
 
-  pub too_short : n < r.least → false ≡ lengthFits t n
-  unfolding lengthFits
+  pub too_short : n < r.least → false ≡ length_fits t n
+  unfolding length_fits
   too_short h = rw (lt-leb (row_of table t).least n (omega (arith, least-is)))
 
-  pub too_long : r.greatest < n → false ≡ lengthFits t n
-  unfolding lengthFits
+  pub too_long : r.greatest < n → false ≡ length_fits t n
+  unfolding length_fits
   too_long h = rw (lt-leb n (row_of table t).greatest (omega (arith, greatest-is)), and-false)
 
-  pub within : r.least ≤ n → n ≤ r.greatest → eqb (n % r.width) 0 ≡ lengthFits t n
-  unfolding lengthFits
+  pub within : r.least ≤ n → n ≤ r.greatest → eqb (n % r.width) 0 ≡ length_fits t n
+  unfolding length_fits
   within low high =
       rw (le-leb (row_of table t).least n (omega (arith, least-is)), le-leb n (row_of table t).greatest (omega (arith, greatest-is)), width_is)

@@ -10,10 +10,10 @@ use lib.Dec.{ltb}
 use lib.ListN.{length, get_or, take, drop, set, replicate, length-append, length-drop, length-replicate}
 use lib.Seq.{take_at, take-suc, get_or-drop, drop-cons, drop-drop, drop-length, set-append_seam}
 use borrow.Author.Tests.{lt-ltb}
-use Rattle.rules.specs.Bytes.{number, allNumbers}
-use Rattle.rules.specs.Message.{noZero}
-use Rattle.rules.proofs.BytesLaws.{number-++, length-allNumbers, allNumbers-suc}
-use Rattle.frame.specs.Acks.{eight, acksOf}
+use Rattle.rules.specs.Bytes.{number, all_numbers}
+use Rattle.rules.specs.Message.{no_zero}
+use Rattle.rules.proofs.BytesLaws.{number-++, length-all_numbers, all_numbers-suc}
+use Rattle.frame.specs.Acks.{eight, acks_of}
 
 -- ---- a number of w bytes, j of which are read
 
@@ -56,27 +56,27 @@ eight-more l i x e h =
     ∙ sym (append_assoc l (x ∷ []) (replicate k 0)))
 
 pub acks-more : (s : List ℕ) (p i x : ℕ) → i < 8 → x ≡ number (take 4 (drop (p + 4 * i) s))
-    → set (eight (allNumbers 4 i (drop p s))) i x ≡ eight (allNumbers 4 (i + 1) (drop p s))
+    → set (eight (all_numbers 4 i (drop p s))) i x ≡ eight (all_numbers 4 (i + 1) (drop p s))
 acks-more s p i x h e =
     let next : i + 1 ≡ suc i = omega arith in
-    eight-more (allNumbers 4 i (drop p s)) i x (length-allNumbers 4 i (drop p s)) h
-    ∙ rw (next, allNumbers-suc 4 i (drop p s), drop-drop (4 * i) p s, e)
+    eight-more (all_numbers 4 i (drop p s)) i x (length-all_numbers 4 i (drop p s)) h
+    ∙ rw (next, all_numbers-suc 4 i (drop p s), drop-drop (4 * i) p s, e)
 
 -- ---- the test of each number
 
 module _ (a : List ℕ) (i : ℕ) (h : i < length a) where
-  noZero-front : noZero (drop i a) ≡ ltb 0 (get_or a i 0) && noZero (drop (i + 1) a)
-  noZero-front =
+  no_zero-front : no_zero (drop i a) ≡ ltb 0 (get_or a i 0) && no_zero (drop (i + 1) a)
+  no_zero-front =
       let next : i + 1 ≡ suc i = omega arith in
       rw (next, drop-cons a i 0 h)
 
-  pub zero-here : get_or a i 0 ≡ 0 → noZero (drop i a) ≡ false
-  zero-here e = noZero-front ∙ rw e
+  pub zero-here : get_or a i 0 ≡ 0 → no_zero (drop i a) ≡ false
+  zero-here e = no_zero-front ∙ rw e
 
-  pub no-zero-here : get_or a i 0 ≢ 0 → noZero (drop i a) ≡ noZero (drop (i + 1) a)
-  no-zero-here e = noZero-front ∙ rw (lt-ltb 0 (get_or a i 0) (omega arith))
+  pub no-zero-here : get_or a i 0 ≢ 0 → no_zero (drop i a) ≡ no_zero (drop (i + 1) a)
+  no-zero-here e = no_zero-front ∙ rw (lt-ltb 0 (get_or a i 0) (omega arith))
 
-pub no-zero-left : (a : List ℕ) (i : ℕ) → i ≡ length a → noZero (drop i a) ≡ true
+pub no-zero-left : (a : List ℕ) (i : ℕ) → i ≡ length a → no_zero (drop i a) ≡ true
 no-zero-left a i e = rw (e, drop-length a)
 
 -- ---- the whole of ACK
@@ -89,15 +89,15 @@ pub take-eight : (l : List ℕ) (n : ℕ) → length l ≡ n → take n (eight l
 unfolding eight
 take-eight l n e = take_at l (replicate (8 - length l) 0) n e
 
-module _ (s : List ℕ) (p x : ℕ) (a : List ℕ) (ex : x ≡ number (take 2 (drop p s))) (ea : a ≡ eight (allNumbers 4 (x / 4) (drop (p + 2) s))) where
-  count : length (allNumbers 4 (x / 4) (drop (p + 2) s)) ≡ x / 4
-  count = length-allNumbers 4 (x / 4) (drop (p + 2) s)
+module _ (s : List ℕ) (p x : ℕ) (a : List ℕ) (ex : x ≡ number (take 2 (drop p s))) (ea : a ≡ eight (all_numbers 4 (x / 4) (drop (p + 2) s))) where
+  count : length (all_numbers 4 (x / 4) (drop (p + 2) s)) ≡ x / 4
+  count = length-all_numbers 4 (x / 4) (drop (p + 2) s)
 
   pub length-all : x / 4 ≤ 8 → length a ≡ 8
-  length-all h = ap length ea ∙ length-eight (allNumbers 4 (x / 4) (drop (p + 2) s)) (omega (arith, count))
+  length-all h = ap length ea ∙ length-eight (all_numbers 4 (x / 4) (drop (p + 2) s)) (omega (arith, count))
 
-  pub acks-are : (r : Bool) → r ≡ noZero (take (x / 4) a) → record { ok = r; n = x / 4; all = a } ≡ acksOf s p
-  unfolding acksOf
+  pub acks-are : (r : Bool) → r ≡ no_zero (take (x / 4) a) → record { ok = r; n = x / 4; all = a } ≡ acks_of s p
+  unfolding acks_of
   acks-are r er =
-      let test : r ≡ noZero (allNumbers 4 (x / 4) (drop (p + 2) s)) = er ∙ ap (λ l. noZero (take (x / 4) l)) ea ∙ ap noZero (take-eight _ (x / 4) count) in
+      let test : r ≡ no_zero (all_numbers 4 (x / 4) (drop (p + 2) s)) = er ∙ ap (λ l. no_zero (take (x / 4) l)) ea ∙ ap no_zero (take-eight _ (x / 4) count) in
       rw (test, ea, ex)

@@ -7,11 +7,11 @@ use native.Mathlib.Omega.{arith}
 use lib.ListN.{length, take, drop, length-drop}
 use lib.Seq.{drop-drop}
 use borrow.Author.Tests.{eqb-true}
-use Rattle.rules.specs.Bytes.{number, allNumbers}
+use Rattle.rules.specs.Bytes.{number, all_numbers}
 use Rattle.rules.specs.Fields.{table, row_of, length_of, fits, numbers}
 use Rattle.rules.proofs.MapsLaws.{and_both}
 use Rattle.rules.proofs.FieldsLaws.{is_field}
-use Rattle.frame.specs.Acks.{countAt}
+use Rattle.frame.specs.Acks.{count_at}
 use Rattle.frame.proofs.Here.{length_at, length-here}
 
 -- a field of tag t at p, of n bytes, and fields of the tags ts after it
@@ -19,7 +19,7 @@ record Step (t : ℕ) (ts l : List ℕ) (p n : ℕ) : Type 0 where
   pub rest : fits table ts (drop (p + 3 + n) l) ≡ true
   pub split :
       numbers table (t ∷ ts) (drop p l)
-      ≡ allNumbers (row_of table t).width (n / (row_of table t).width) (drop (p + 3) l) ∷ numbers table ts (drop (p + 3 + n) l)
+      ≡ all_numbers (row_of table t).width (n / (row_of table t).width) (drop (p + 3) l) ∷ numbers table ts (drop (p + 3 + n) l)
   pub inside : p + 3 + n ≤ length l
   pub least : (row_of table t).least ≤ n
   pub greatest : n ≤ (row_of table t).greatest
@@ -81,18 +81,18 @@ pub record DataPlaces (l : List ℕ) (n : ℕ) : Type 0 where
   pub split :
       numbers table (5 ∷ 6 ∷ 7 ∷ 10 ∷ []) (drop 19 l)
       ≡ number_at l 22 4
-      ∷ allNumbers 4 n (drop 29 l)
+      ∷ all_numbers 4 n (drop 29 l)
       ∷ number_at l (32 + 4 * n) 2
-      ∷ allNumbers 1 (length l - (37 + 4 * n)) (drop (37 + 4 * n) l)
+      ∷ all_numbers 1 (length l - (37 + 4 * n)) (drop (37 + 4 * n) l)
       ∷ []
   pub long : 37 + 4 * n ≤ length l
   pub few : n ≤ 8
 
-pub data-places : (l : List ℕ) → fits table (5 ∷ 6 ∷ 7 ∷ 10 ∷ []) (drop 19 l) ≡ true → DataPlaces l (countAt l 27)
+pub data-places : (l : List ℕ) → fits table (5 ∷ 6 ∷ 7 ∷ 10 ∷ []) (drop 19 l) ≡ true → DataPlaces l (count_at l 27)
 unfolding table row_of
 data-places l h =
     let a = length_at l 26 in
-    let n = countAt l 27 in
+    let n = count_at l 27 in
     let s5 = fixed 5 (6 ∷ 7 ∷ 10 ∷ []) l 19 4 h refl refl in
     let s6 = step 6 (7 ∷ 10 ∷ []) l 26 a s5.rest refl in
     let s7 = fixed 7 (10 ∷ []) l (29 + a) 2 s6.rest refl refl in
@@ -115,15 +115,15 @@ data-places l h =
 pub record RequestPlaces (l : List ℕ) (n : ℕ) : Type 0 where
   pub split :
       numbers table (6 ∷ 8 ∷ 9 ∷ []) (drop 19 l)
-      ≡ allNumbers 4 n (drop 22 l) ∷ number_at l (25 + 4 * n) 1 ∷ number_at l (29 + 4 * n) 4 ∷ []
+      ≡ all_numbers 4 n (drop 22 l) ∷ number_at l (25 + 4 * n) 1 ∷ number_at l (29 + 4 * n) 4 ∷ []
   pub long : 33 + 4 * n ≤ length l
   pub few : n ≤ 8
 
-pub request-places : (l : List ℕ) → fits table (6 ∷ 8 ∷ 9 ∷ []) (drop 19 l) ≡ true → RequestPlaces l (countAt l 20)
+pub request-places : (l : List ℕ) → fits table (6 ∷ 8 ∷ 9 ∷ []) (drop 19 l) ≡ true → RequestPlaces l (count_at l 20)
 unfolding table row_of
 request-places l h =
     let a = length_at l 19 in
-    let n = countAt l 20 in
+    let n = count_at l 20 in
     let s6 = step 6 (8 ∷ 9 ∷ []) l 19 a h refl in
     let s8 = fixed 8 (9 ∷ []) l (22 + a) 1 s6.rest refl refl in
     let s9 = fixed 9 [] l (22 + a + 3 + 1) 4 s8.rest refl refl in

@@ -9,12 +9,12 @@ use native.Mathlib.Omega.{arith}
 use lib.ListN.{length, get_or, take, drop}
 use lib.Seq.{drop-cons}
 use borrow.Author.Tests.{eqb-true, ne_eqb}
-use Rattle.rules.specs.Bytes.{number, allNumbers}
-use Rattle.rules.specs.Fields.{table, tagsOf, fits, numbers}
-use Rattle.rules.specs.Message.{Message, Request, Said, message, request, edition, inLimits, one, asMessage, asRequest, readAs, or_else, decode}
+use Rattle.rules.specs.Bytes.{number, all_numbers}
+use Rattle.rules.specs.Fields.{table, tags_of, fits, numbers}
+use Rattle.rules.specs.Message.{Message, Request, Said, message, request, edition, in_limits, one, as_message, as_request, read_as, or_else, decode}
 use Rattle.rules.proofs.MapsLaws.{Eq?, same, other, eq?}
 use Rattle.rules.proofs.MessageLaws.{Read, read_some, read_none}
-use Rattle.frame.specs.Acks.{countAt, acksAt}
+use Rattle.frame.specs.Acks.{count_at, acks_at}
 use Rattle.frame.proofs.Places.{headed, head, DataPlaces, data-places, RequestPlaces, request-places}
 
 number-one : (l : List ℕ) (p : ℕ) → p < length l → number (take 1 (drop p l)) ≡ get_or l p 0
@@ -36,10 +36,10 @@ module _ (ts l : List ℕ) (h : fits table (1 ∷ 2 ∷ 3 ∷ 4 ∷ ts) l ≡ tr
 -- what is read at all has these
 pub record Seen (l : List ℕ) : Type 0 where
   pub long : 19 ≤ length l
-  pub fit : fits table (tagsOf table (get_or l 7 0)) l ≡ true
+  pub fit : fits table (tags_of table (get_or l 7 0)) l ≡ true
   pub edition-is : get_or l 3 0 ≡ edition
 
-module _ (k : ℕ) («as» : List (List ℕ) → Said) (l ts : List ℕ) (e : tagsOf table k ≡ 1 ∷ 2 ∷ 3 ∷ 4 ∷ ts) (x : Said) (r : Read k «as» l x) where
+module _ (k : ℕ) («as» : List (List ℕ) → Said) (l ts : List ℕ) (e : tags_of table k ≡ 1 ∷ 2 ∷ 3 ∷ 4 ∷ ts) (x : Said) (r : Read k «as» l x) where
   fit : fits table (1 ∷ 2 ∷ 3 ∷ 4 ∷ ts) l ≡ true
   fit = ap (λ us. fits table us l) (sym e) ∙ r.fit
 
@@ -50,45 +50,45 @@ module _ (k : ℕ) («as» : List (List ℕ) → Said) (l ts : List ℕ) (e : ta
   seen =
       record {
         long = (head ts l fit).long;
-        fit = ap (λ i. fits table (tagsOf table i) l) read-kind ∙ r.fit;
+        fit = ap (λ i. fits table (tags_of table i) l) read-kind ∙ r.fit;
         edition-is = sym (edition-byte ts l fit) ∙ ap (λ us. one (numbers table us l) 0) (sym e) ∙ r.edition-is;
       }
 
-tags-1 : tagsOf table 1 ≡ 1 ∷ 2 ∷ 3 ∷ 4 ∷ 5 ∷ 6 ∷ 7 ∷ 10 ∷ []
-unfolding table tagsOf
+tags-1 : tags_of table 1 ≡ 1 ∷ 2 ∷ 3 ∷ 4 ∷ 5 ∷ 6 ∷ 7 ∷ 10 ∷ []
+unfolding table tags_of
 tags-1 = refl
 
-tags-2 : tagsOf table 2 ≡ 1 ∷ 2 ∷ 3 ∷ 4 ∷ 6 ∷ 8 ∷ 9 ∷ []
-unfolding table tagsOf
+tags-2 : tags_of table 2 ≡ 1 ∷ 2 ∷ 3 ∷ 4 ∷ 6 ∷ 8 ∷ 9 ∷ []
+unfolding table tags_of
 tags-2 = refl
 
 pub not_seen : (l : List ℕ) → (Seen l → ⊥) → decode l ≡ none
 unfolding decode
 not_seen l h =
     rw
-    (read_none 1 asMessage l (λ x r. h (seen 1 asMessage l _ tags-1 x r)), read_none 2 asRequest l (λ x r. h (seen 2 asRequest l _ tags-2 x r)))
+    (read_none 1 as_message l (λ x r. h (seen 1 as_message l _ tags-1 x r)), read_none 2 as_request l (λ x r. h (seen 2 as_request l _ tags-2 x r)))
 
 -- the kind that byte 7 says is the only one to read
-decode-1 : (l : List ℕ) → get_or l 7 0 ≡ 1 → decode l ≡ readAs 1 asMessage l
+decode-1 : (l : List ℕ) → get_or l 7 0 ≡ 1 → decode l ≡ read_as 1 as_message l
 unfolding decode
 decode-1 l e =
-    ap (or_else (readAs 1 asMessage l)) (read_none 2 asRequest l (λ x r. let f = read-kind 2 asRequest l _ tags-2 x r in omega arith)) ∙ go (readAs 1 asMessage l)
+    ap (or_else (read_as 1 as_message l)) (read_none 2 as_request l (λ x r. let f = read-kind 2 as_request l _ tags-2 x r in omega arith)) ∙ go (read_as 1 as_message l)
   where
     go : (o : Option Said) → or_else o none ≡ o
     go none = refl
     go (some x) = refl
 
-decode-2 : (l : List ℕ) → get_or l 7 0 ≡ 2 → decode l ≡ readAs 2 asRequest l
+decode-2 : (l : List ℕ) → get_or l 7 0 ≡ 2 → decode l ≡ read_as 2 as_request l
 unfolding decode
 decode-2 l e =
-    ap (λ o. or_else o (readAs 2 asRequest l)) (read_none 1 asMessage l (λ x r. let f = read-kind 1 asMessage l _ tags-1 x r in omega arith))
+    ap (λ o. or_else o (read_as 2 as_request l)) (read_none 1 as_message l (λ x r. let f = read-kind 1 as_message l _ tags-1 x r in omega arith))
 
 -- another kind has no fields
-no-tags : (k : ℕ) → k ≢ 1 → k ≢ 2 → tagsOf table k ≡ []
-unfolding table tagsOf
+no-tags : (k : ℕ) → k ≢ 1 → k ≢ 2 → tags_of table k ≡ []
+unfolding table tags_of
 no-tags k a b = rw (ne_eqb k 1 a, ne_eqb k 2 b)
 
-pub two-kinds : (l : List ℕ) (k : ℕ) → 8 ≤ length l → fits table (tagsOf table k) l ≡ true → k ≢ 1 → k ≡ 2
+pub two-kinds : (l : List ℕ) (k : ℕ) → 8 ≤ length l → fits table (tags_of table k) l ≡ true → k ≢ 1 → k ≡ 2
 two-kinds l k long h a = go (eq? k 2)
   where
     go : {b : Bool} → Eq? k 2 b → k ≡ 2
@@ -99,52 +99,52 @@ two-kinds l k long h a = go (eq? k 2)
 
 -- ---- the numbers at their places
 
-abbrev pub messageAt : List ℕ → Message
-messageAt l =
-    let n = countAt l 27 in
+abbrev pub message_at : List ℕ → Message
+message_at l =
+    let n = count_at l 27 in
     record {
       cid = number (take 4 (drop 11 l));
       src = number (take 1 (drop 18 l));
       seq = number (take 4 (drop 22 l));
-      ack = acksAt l 27;
+      ack = acks_at l 27;
       buf = number (take 2 (drop (32 + 4 * n) l));
-      text = allNumbers 1 (length l - (37 + 4 * n)) (drop (37 + 4 * n) l);
+      text = all_numbers 1 (length l - (37 + 4 * n)) (drop (37 + 4 * n) l);
     }
 
-abbrev pub requestAt : List ℕ → Request
-requestAt l =
-    let n = countAt l 20 in
+abbrev pub request_at : List ℕ → Request
+request_at l =
+    let n = count_at l 20 in
     record {
       cid = number (take 4 (drop 11 l));
       src = number (take 1 (drop 18 l));
-      ack = acksAt l 20;
+      ack = acks_at l 20;
       lsrc = number (take 1 (drop (25 + 4 * n) l));
       lseq = number (take 4 (drop (29 + 4 * n) l));
     }
 
-module _ (l : List ℕ) (h : fits table (tagsOf table 1) l ≡ true) where
-  pub data-at : DataPlaces l (countAt l 27)
-  unfolding table tagsOf
+module _ (l : List ℕ) (h : fits table (tags_of table 1) l ≡ true) where
+  pub data-at : DataPlaces l (count_at l 27)
+  unfolding table tags_of
   data-at = data-places l (head (5 ∷ 6 ∷ 7 ∷ 10 ∷ []) l h).rest
 
-  pub message-is : asMessage (numbers table (tagsOf table 1) l) ≡ message (messageAt l)
-  unfolding table tagsOf
-  message-is = ap asMessage ((head (5 ∷ 6 ∷ 7 ∷ 10 ∷ []) l h).split ∙ ap (headed l) data-at.split)
+  pub message-is : as_message (numbers table (tags_of table 1) l) ≡ message (message_at l)
+  unfolding table tags_of
+  message-is = ap as_message ((head (5 ∷ 6 ∷ 7 ∷ 10 ∷ []) l h).split ∙ ap (headed l) data-at.split)
 
-module _ (l : List ℕ) (h : fits table (tagsOf table 2) l ≡ true) where
-  pub request-at : RequestPlaces l (countAt l 20)
-  unfolding table tagsOf
+module _ (l : List ℕ) (h : fits table (tags_of table 2) l ≡ true) where
+  pub request-at : RequestPlaces l (count_at l 20)
+  unfolding table tags_of
   request-at = request-places l (head (6 ∷ 8 ∷ 9 ∷ []) l h).rest
 
-  pub request-is : asRequest (numbers table (tagsOf table 2) l) ≡ request (requestAt l)
-  unfolding table tagsOf
-  request-is = ap asRequest ((head (6 ∷ 8 ∷ 9 ∷ []) l h).split ∙ ap (headed l) request-at.split)
+  pub request-is : as_request (numbers table (tags_of table 2) l) ≡ request (request_at l)
+  unfolding table tags_of
+  request-is = ap as_request ((head (6 ∷ 8 ∷ 9 ∷ []) l h).split ∙ ap (headed l) request-at.split)
 
 -- ---- what is read, by kind
 
-module _ (k : ℕ) («as» : List (List ℕ) → Said) (l ts : List ℕ) (tags : tagsOf table k ≡ 1 ∷ 2 ∷ 3 ∷ 4 ∷ ts) (y : Said)
-    (f : fits table (tagsOf table k) l ≡ true) (said : «as» (numbers table (tagsOf table k) l) ≡ y) where
-  kind-some : get_or l 3 0 ≡ edition → get_or l 7 0 ≡ k → inLimits y ≡ true → readAs k «as» l ≡ some y
+module _ (k : ℕ) («as» : List (List ℕ) → Said) (l ts : List ℕ) (tags : tags_of table k ≡ 1 ∷ 2 ∷ 3 ∷ 4 ∷ ts) (y : Said)
+    (f : fits table (tags_of table k) l ≡ true) (said : «as» (numbers table (tags_of table k) l) ≡ y) where
+  kind-some : get_or l 3 0 ≡ edition → get_or l 7 0 ≡ k → in_limits y ≡ true → read_as k «as» l ≡ some y
   kind-some e b h =
       let g : fits table (1 ∷ 2 ∷ 3 ∷ 4 ∷ ts) l ≡ true = ap (λ us. fits table us l) (sym tags) ∙ f in
       read_some k «as» l y
@@ -152,23 +152,23 @@ module _ (k : ℕ) («as» : List (List ℕ) → Said) (l ts : List ℕ) (tags :
         fit = f;
         edition-is = ap (λ us. one (numbers table us l) 0) tags ∙ edition-byte ts l g ∙ e;
         kind-is = ap (λ us. one (numbers table us l) 1) tags ∙ kind-byte ts l g ∙ b;
-        limits = ap inLimits said ∙ h;
+        limits = ap in_limits said ∙ h;
         same = said;
       })
 
-  kind-none : (inLimits y ≡ true → ⊥) → readAs k «as» l ≡ none
-  kind-none h = read_none k «as» l (λ x r. h (ap inLimits (sym said) ∙ r.limits))
+  kind-none : (in_limits y ≡ true → ⊥) → read_as k «as» l ≡ none
+  kind-none h = read_none k «as» l (λ x r. h (ap in_limits (sym said) ∙ r.limits))
 
-module _ (l : List ℕ) (f : fits table (tagsOf table 1) l ≡ true) (e : get_or l 3 0 ≡ edition) (k : get_or l 7 0 ≡ 1) where
-  pub is-message : inLimits (message (messageAt l)) ≡ true → decode l ≡ some (message (messageAt l))
-  is-message h = decode-1 l k ∙ kind-some 1 asMessage l _ tags-1 (message (messageAt l)) f (message-is l f) e k h
+module _ (l : List ℕ) (f : fits table (tags_of table 1) l ≡ true) (e : get_or l 3 0 ≡ edition) (k : get_or l 7 0 ≡ 1) where
+  pub is-message : in_limits (message (message_at l)) ≡ true → decode l ≡ some (message (message_at l))
+  is-message h = decode-1 l k ∙ kind-some 1 as_message l _ tags-1 (message (message_at l)) f (message-is l f) e k h
 
-  pub not-message : (inLimits (message (messageAt l)) ≡ true → ⊥) → decode l ≡ none
-  not-message h = decode-1 l k ∙ kind-none 1 asMessage l _ tags-1 (message (messageAt l)) f (message-is l f) h
+  pub not-message : (in_limits (message (message_at l)) ≡ true → ⊥) → decode l ≡ none
+  not-message h = decode-1 l k ∙ kind-none 1 as_message l _ tags-1 (message (message_at l)) f (message-is l f) h
 
-module _ (l : List ℕ) (f : fits table (tagsOf table 2) l ≡ true) (e : get_or l 3 0 ≡ edition) (k : get_or l 7 0 ≡ 2) where
-  pub is-request : inLimits (request (requestAt l)) ≡ true → decode l ≡ some (request (requestAt l))
-  is-request h = decode-2 l k ∙ kind-some 2 asRequest l _ tags-2 (request (requestAt l)) f (request-is l f) e k h
+module _ (l : List ℕ) (f : fits table (tags_of table 2) l ≡ true) (e : get_or l 3 0 ≡ edition) (k : get_or l 7 0 ≡ 2) where
+  pub is-request : in_limits (request (request_at l)) ≡ true → decode l ≡ some (request (request_at l))
+  is-request h = decode-2 l k ∙ kind-some 2 as_request l _ tags-2 (request (request_at l)) f (request-is l f) e k h
 
-  pub not-request : (inLimits (request (requestAt l)) ≡ true → ⊥) → decode l ≡ none
-  not-request h = decode-2 l k ∙ kind-none 2 asRequest l _ tags-2 (request (requestAt l)) f (request-is l f) h
+  pub not-request : (in_limits (request (request_at l)) ≡ true → ⊥) → decode l ≡ none
+  not-request h = decode-2 l k ∙ kind-none 2 as_request l _ tags-2 (request (request_at l)) f (request-is l f) h

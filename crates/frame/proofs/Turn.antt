@@ -8,47 +8,47 @@ use lib.Dec.{eqb}
 use lib.ListN.{length, drop, length-drop}
 use lib.Seq.{drop-drop}
 use borrow.Author.Tests.{eqb-true, eq-eqb}
-use Rattle.rules.specs.Fields.{table, tagsOf, length_of, fieldFits, fits}
+use Rattle.rules.specs.Fields.{table, tags_of, length_of, field_fits, fits}
 use Rattle.rules.proofs.MapsLaws.{same_test}
-use Rattle.rules.proofs.FieldsLaws.{is_field, tagsLeft}
+use Rattle.rules.proofs.FieldsLaws.{is_field, tags_left}
 use Rattle.frame.specs.declared.field.Field.{Field}
 use Rattle.frame.specs.Table.{has}
 use Rattle.frame.specs.Field.{no_field, field_at}
 use Rattle.frame.proofs.Lines.{tags-step, tags-end}
 
 -- what was found is whether the field fits, and its end
-ok-is : (l : List ℕ) (p t : ℕ) → (field_at l p t).ok ≡ fieldFits table t (drop p l)
+ok-is : (l : List ℕ) (p t : ℕ) → (field_at l p t).ok ≡ field_fits table t (drop p l)
 unfolding field_at
-ok-is l p t = go (fieldFits table t (drop p l))
+ok-is l p t = go (field_fits table t (drop p l))
   where
     go : (b : Bool) → (cond b (record { ok = true; start = p + 3; end = p + 3 + length_of (drop p l) }) no_field).ok ≡ b
     go true = refl
     go false = refl
 
-end_is : (l : List ℕ) (p t : ℕ) → fieldFits table t (drop p l) ≡ true → (field_at l p t).end ≡ p + 3 + length_of (drop p l)
+end_is : (l : List ℕ) (p t : ℕ) → field_fits table t (drop p l) ≡ true → (field_at l p t).end ≡ p + 3 + length_of (drop p l)
 unfolding field_at
 end_is l p t h = rw h
 
 module _ (l : List ℕ) (p t k : ℕ) (low : 1 ≤ t) (high : t ≤ 10) where
-  pass-by : has t k ≡ false → fits table (tagsLeft table t k) (drop p l) ≡ fits table (tagsLeft table (t + 1) k) (drop p l)
+  pass-by : has t k ≡ false → fits table (tags_left table t k) (drop p l) ≡ fits table (tags_left table (t + 1) k) (drop p l)
   pass-by n = ap (λ ts. fits table ts (drop p l)) (tags-step t k low high false n)
 
   here : has t k ≡ true
-      → fits table (tagsLeft table t k) (drop p l)
-      ≡ fieldFits table t (drop p l) && fits table (tagsLeft table (t + 1) k) (drop (3 + length_of (drop p l)) (drop p l))
+      → fits table (tags_left table t k) (drop p l)
+      ≡ field_fits table t (drop p l) && fits table (tags_left table (t + 1) k) (drop (3 + length_of (drop p l)) (drop p l))
   here y = ap (λ ts. fits table ts (drop p l)) (tags-step t k low high true y)
 
   module _ (y : has t k ≡ true) (f : Field) (e : f ≡ field_at l p t) where
-    fit : (b : Bool) → f.ok ≡ b → fieldFits table t (drop p l) ≡ b
+    fit : (b : Bool) → f.ok ≡ b → field_fits table t (drop p l) ≡ b
     fit b o = sym (ok-is l p t) ∙ ap (λ (x : Field). x.ok) (sym e) ∙ o
 
     end-here : f.ok ≡ true → f.end ≡ p + 3 + length_of (drop p l)
     end-here o = ap (λ (x : Field). x.end) e ∙ end_is l p t (fit true o)
 
-    refused : f.ok ≡ false → fits table (tagsLeft table t k) (drop p l) ≡ false
+    refused : f.ok ≡ false → fits table (tags_left table t k) (drop p l) ≡ false
     refused o = here y ∙ rw (fit false o)
 
-    over : f.ok ≡ true → fits table (tagsLeft table t k) (drop p l) ≡ fits table (tagsLeft table (t + 1) k) (drop f.end l)
+    over : f.ok ≡ true → fits table (tags_left table t k) (drop p l) ≡ fits table (tags_left table (t + 1) k) (drop f.end l)
     over o =
         let place : p + (3 + length_of (drop p l)) ≡ f.end = omega (arith, end-here o) in
         here y ∙ rw (fit true o, drop-drop (3 + length_of (drop p l)) p l, place)
@@ -64,10 +64,10 @@ pub record Walked (l : List ℕ) (k at tag : ℕ) : Type 0 where
   pub low : 1 ≤ tag
   pub high : tag ≤ 11
   pub inside : at ≤ length l
-  pub rest : fits table (tagsLeft table tag k) (drop at l) ≡ fits table (tagsOf table k) l
+  pub rest : fits table (tags_left table tag k) (drop at l) ≡ fits table (tags_of table k) l
 
 pub none-walked : (l : List ℕ) (k : ℕ) → Walked l k 0 1
-unfolding tagsOf
+unfolding tags_of
 none-walked l k = record { low = omega arith; high = omega arith; inside = omega arith; rest = refl }
 
 module _ (l : List ℕ) (k at tag : ℕ) (w : Walked l k at tag) where
@@ -76,7 +76,7 @@ module _ (l : List ℕ) (k at tag : ℕ) (w : Walked l k at tag) where
       record { low = omega arith; high = omega arith; inside = w.inside; rest = sym (pass-by l at tag k w.low h n) ∙ w.rest }
 
   module _ (h : tag ≤ 10) (y : has tag k ≡ true) (f : Field) (e : f ≡ field_at l at tag) where
-    pub stopped : f.ok ≡ false → false ≡ fits table (tagsOf table k) l
+    pub stopped : f.ok ≡ false → false ≡ fits table (tags_of table k) l
     stopped o = sym (refused l at tag k w.low h y f e o) ∙ w.rest
 
     pub walked-over : f.ok ≡ true → Walked l k f.end (tag + 1)
@@ -89,7 +89,7 @@ module _ (l : List ℕ) (k at tag : ℕ) (w : Walked l k at tag) where
         }
 
   -- past the table nothing is left, and nothing may follow
-  pub walked_all : tag ≡ 11 → eqb at (length l) ≡ fits table (tagsOf table k) l
+  pub walked_all : tag ≡ 11 → eqb at (length l) ≡ fits table (tags_of table k) l
   walked_all e =
       same_test (eqb at (length l)) (eqb (length (drop at l)) 0)
       (λ x. eq-eqb (length (drop at l)) 0 (omega (arith, length-drop at l, eqb-true at (length l) x)))

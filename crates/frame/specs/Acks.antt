@@ -1,7 +1,7 @@
 -- The numbers of ACK as the code holds them.
 use Rattle.std.specs.Prelude.{List, ◌++◌, ℕ, ◌+◌, ◌-◌, ◌*◌, ◌/◌, ◌≤◌, length, take, drop, replicate}
-use Rattle.rules.specs.Bytes.{number, allNumbers}
-use Rattle.rules.specs.Message.{noZero}
+use Rattle.rules.specs.Bytes.{number, all_numbers}
+use Rattle.rules.specs.Message.{no_zero}
 use Rattle.frame.specs.declared.number.Acks.{Acks}
 
 -- the numbers, and 0 for the others of the eight
@@ -9,16 +9,16 @@ unfoldable pub eight : List ℕ → List ℕ
 eight l = l ++ replicate (8 - length l) 0
 
 -- how many stand after the length at p, and which
-abbrev pub countAt : List ℕ → ℕ → ℕ
-countAt l p = number (take 2 (drop p l)) / 4
+abbrev pub count_at : List ℕ → ℕ → ℕ
+count_at l p = number (take 2 (drop p l)) / 4
 
-abbrev pub acksAt : List ℕ → ℕ → List ℕ
-acksAt l p = allNumbers 4 (countAt l p) (drop (p + 2) l)
+abbrev pub acks_at : List ℕ → ℕ → List ℕ
+acks_at l p = all_numbers 4 (count_at l p) (drop (p + 2) l)
 
-unfoldable pub acksOf : List ℕ → ℕ → Acks
-acksOf l p = record { ok = noZero (acksAt l p); n = countAt l p; all = eight (acksAt l p) }
+unfoldable pub acks_of : List ℕ → ℕ → Acks
+acks_of l p = record { ok = no_zero (acks_at l p); n = count_at l p; all = eight (acks_at l p) }
 
 -- they are at most eight, and the slice has them
 pub record AckFits (l : List ℕ) (p : ℕ) : Type 0 where
-  pub few : countAt l p ≤ 8
-  pub inside : p + 2 + 4 * countAt l p ≤ length l
+  pub few : count_at l p ≤ 8
+  pub inside : p + 2 + 4 * count_at l p ≤ length l

@@ -55,8 +55,8 @@ frame_of (some (request r)) =
     }
 
 -- what frames of both kinds say, the numbers of ACK being a: CID at 11, SRC at 18
-unfoldable pub commonOf : List ℕ → ℕ → Acks → Frame
-commonOf l k a =
+unfoldable pub common_of : List ℕ → ℕ → Acks → Frame
+common_of l k a =
     record {
       answer = 0;
       kind = k;
@@ -73,7 +73,7 @@ commonOf l k a =
     }
 
 -- the data: of a message, and none otherwise
-unfoldable pub payloadOf : Option Said → List ℕ
-payloadOf none = []
-payloadOf (some (message m)) = m.text
-payloadOf (some (request r)) = []
+unfoldable pub payload_of : Option Said → List ℕ
+payload_of none = []
+payload_of (some (message m)) = m.text
+payload_of (some (request r)) = []

@@ -19,7 +19,7 @@ unfoldable pub has : ℕ → ℕ → Bool
 has t k = among k (row_of table t).kinds
 
 -- a field of tag t can be n bytes long
-unfoldable pub lengthFits : ℕ → ℕ → Bool
-lengthFits t n =
+unfoldable pub length_fits : ℕ → ℕ → Bool
+length_fits t n =
     let r = row_of table t in
     leb r.least n && leb n r.greatest && eqb (n % r.width) 0

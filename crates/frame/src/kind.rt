@@ -1,9 +1,9 @@
 // The numbers of a frame that is well formed, at their places.
 ghost use Rattle.std.specs.Prelude.{◌≡◌, true, ◌≤◌, length, get_or};
 ghost use Rattle.std.proofs.Math.Option.{none};
-ghost use Rattle.rules.specs.Fields.{table, tagsOf, fits};
+ghost use Rattle.rules.specs.Fields.{table, tags_of, fits};
 ghost use Rattle.rules.specs.Message.{edition, decode};
-ghost use Rattle.frame.specs.Frame.{frame_of, commonOf};
+ghost use Rattle.frame.specs.Frame.{frame_of, common_of};
 
 use crate::Frame;
 use crate::number::{Acks, ack_field, number_at};
@@ -34,7 +34,7 @@ const LAST: u32 = 4294967295;
 // What frames of both kinds say: CID at 11, SRC at 18, and ACK. The rest is 0.
 fn common(s: &[u8], kind: u32, acks: Acks) -> Frame
     requires { 19 ≤ length s.now }
-    ensures { result ≡ commonOf s.now kind acks }
+    ensures { result ≡ common_of s.now kind acks }
 {
     let n = acks.n;
     let ack = acks.all;
@@ -56,7 +56,7 @@ fn common(s: &[u8], kind: u32, acks: Acks) -> Frame
 
 // SEQ stands at 22, the length of ACK at 27, and BUF and the data after ACK.
 pub fn read_data(s: &[u8]) -> Frame
-    requires { (fits table (tagsOf table 1) s.now ≡ true) × (get_or s.now 3 0 ≡ edition) × (get_or s.now 7 0 ≡ 1) }
+    requires { (fits table (tags_of table 1) s.now ≡ true) × (get_or s.now 3 0 ≡ edition) × (get_or s.now 7 0 ≡ 1) }
     ensures { result ≡ frame_of (decode s.now) }
 {
     let acks = ack_field(s, 27);
@@ -82,7 +82,7 @@ pub fn read_data(s: &[u8]) -> Frame
 
 // The length of ACK stands at 20, and LSRC and LSEQ after ACK.
 pub fn read_request(s: &[u8]) -> Frame
-    requires { (fits table (tagsOf table 2) s.now ≡ true) × (get_or s.now 3 0 ≡ edition) × (get_or s.now 7 0 ≡ 2) }
+    requires { (fits table (tags_of table 2) s.now ≡ true) × (get_or s.now 3 0 ≡ edition) × (get_or s.now 7 0 ≡ 2) }
     ensures { result ≡ frame_of (decode s.now) }
 {
     let acks = ack_field(s, 20);

@@ -1,7 +1,7 @@
 // Reading frames: the table of tags, the fields, the numbers in them and the data as a part of the caller's frame.
 ghost use Rattle.std.specs.Prelude.{◌≡◌};
 ghost use Rattle.rules.specs.Message.{decode};
-ghost use Rattle.frame.specs.Frame.{frame_of, payloadOf};
+ghost use Rattle.frame.specs.Frame.{frame_of, payload_of};
 
 mod export;
 mod field;
@@ -55,7 +55,7 @@ pub fn read(s: &[u8]) -> Frame
 
 // The data of a data frame, as that part of the caller's frame; empty with a refusal and for a request.
 pub fn payload(s: &[u8]) -> &[u8]
-    ensures { result.now ≡ payloadOf (decode s.now) }
+    ensures { result.now ≡ payload_of (decode s.now) }
 {
     let f = read(s);
     let kind = f.kind;

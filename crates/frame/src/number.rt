@@ -1,8 +1,8 @@
 // Numbers in a slice of bytes, high byte first; and the numbers of an ACK field.
 ghost use Rattle.std.specs.Prelude.{◌≡◌, ◌+◌, ◌*◌, ◌≤◌, ◌<◌, length, take, drop};
-ghost use Rattle.rules.specs.Bytes.{number, allNumbers};
-ghost use Rattle.rules.specs.Message.{noZero};
-ghost use Rattle.frame.specs.Acks.{eight, AckFits, acksOf};
+ghost use Rattle.rules.specs.Bytes.{number, all_numbers};
+ghost use Rattle.rules.specs.Message.{no_zero};
+ghost use Rattle.frame.specs.Acks.{eight, AckFits, acks_of};
 
 fn wide(b: u8) -> u32
     ensures { (result ≡ b) × (result < 256) }
@@ -27,7 +27,7 @@ pub fn number_at(s: &[u8], at: usize, w: usize) -> u32
 // The n numbers of four bytes from a place on; the others of the eight are 0.
 fn acks_at(s: &[u8], at: usize, n: usize) -> [u32; 8]
     requires { (n ≤ 8) × (at + 4 * n ≤ length s.now) }
-    ensures { result ≡ eight (allNumbers 4 n (drop at s.now)) }
+    ensures { result ≡ eight (all_numbers 4 n (drop at s.now)) }
 {
     let mut ack = [0u32; 8];
     let mut i = 0;
@@ -40,7 +40,7 @@ fn acks_at(s: &[u8], at: usize, n: usize) -> [u32; 8]
 
 // None of the numbers is 0.
 fn no_zero(a: &[u32]) -> bool
-    ensures { result ≡ noZero a.now }
+    ensures { result ≡ no_zero a.now }
 {
     let mut i = 0;
     while i < a.len() {
@@ -63,7 +63,7 @@ pub struct Acks {
 // ACK, whose length stands at a place, and the numbers after it.
 pub fn ack_field(s: &[u8], at: usize) -> Acks
     requires { AckFits s.now at }
-    ensures { result ≡ acksOf s.now at }
+    ensures { result ≡ acks_of s.now at }
 {
     let n = number_at(s, at, 2) as usize / 4;
     let all = acks_at(s, at + 2, n);

@@ -1,7 +1,7 @@
 // The field reader: it keeps the lent frame and its place in it. Its functions are thin: `field_at` and `part_at`, on the
 // slice and numbers, do the work. `next_field` and `content` have plain parameters, so that their callers know no reader.
 ghost use Rattle.std.specs.Prelude.{◌≡◌};
-ghost use Rattle.rules.specs.Fields.{table, tagsOf, fits};
+ghost use Rattle.rules.specs.Fields.{table, tags_of, fits};
 ghost use Rattle.frame.specs.Field.{field_at, part_at};
 ghost use Rattle.frame.specs.Reader.{begun, next_of, after_of, part_of};
 
@@ -63,7 +63,7 @@ pub fn content(s: &[u8], f: Field) -> &[u8]
 
 // The bytes are the fields of this kind, each once and in rising tag order, and nothing follows.
 pub fn well_formed(s: &[u8], kind: u8) -> bool
-    ensures { result ≡ fits table (tagsOf table kind) s.now }
+    ensures { result ≡ fits table (tags_of table kind) s.now }
 {
     let mut last = Field {
         ok: true,

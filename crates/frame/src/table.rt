@@ -1,7 +1,7 @@
 // The ten tags of 01: what reader and writer know of each stands here and nowhere else.
 ghost use Rattle.std.specs.Prelude.{◌≡◌};
 ghost use Rattle.rules.specs.Fields.{table, row_of};
-ghost use Rattle.frame.specs.Table.{line_of, has, lengthFits};
+ghost use Rattle.frame.specs.Table.{line_of, has, length_fits};
 
 // The content of a field is numbers of `width` bytes each; its length in bytes is from `least` to `greatest`; data
 // messages have the field, requests have it.
@@ -133,7 +133,7 @@ pub fn has_tag(tag: u8, kind: u8) -> bool
 
 // A field of this tag can be n bytes long.
 pub fn length_fits(tag: u8, n: usize) -> bool
-    ensures { result ≡ lengthFits tag n }
+    ensures { result ≡ length_fits tag n }
 {
     let row = row_of(tag);
     let width = row.width as usize;

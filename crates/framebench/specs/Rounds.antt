@@ -6,8 +6,8 @@ use Rattle.frame.specs.declared.Frame.{Frame}
 use Rattle.frame.specs.Frame.{frame_of}
 
 -- message i: n goes round 2 to 8 and the data round 0 to 48 bytes
-abbrev pub messageOf : ℕ → Message
-messageOf i =
+abbrev pub message_of : ℕ → Message
+message_of i =
     record {
       cid = i;
       src = i % 256;
@@ -26,4 +26,4 @@ sum_of f = plus (plus f.cid f.src) (plus (plus f.seq (slice_index f.ack 0)) (plu
 -- the sums of the first messages
 abbrev pub total_of : ℕ → ℕ
 total_of zero = 0
-total_of (suc i) = plus (total_of i) (sum_of (frame_of (some (message (messageOf i)))))
+total_of (suc i) = plus (total_of i) (sum_of (frame_of (some (message (message_of i)))))

@@ -3,7 +3,7 @@ ghost use Rattle.std.specs.Prelude.{◌≡◌, ◌+◌, ◌<◌, length};
 ghost use Rattle.std.proofs.Math.Option.{some};
 ghost use Rattle.rules.specs.Message.{message};
 ghost use Rattle.frame.specs.Frame.{frame_of};
-ghost use Rattle.framebench.specs.Rounds.{messageOf, sum_of, total_of};
+ghost use Rattle.framebench.specs.Rounds.{message_of, sum_of, total_of};
 
 use frame::{Frame, read};
 use framewrite::write_data;
@@ -24,7 +24,7 @@ fn sum(f: Frame) -> u32
 
 // The sum of message i, written and read back.
 fn back(i: u32) -> u32
-    ensures { result ≡ sum_of (frame_of (some (message (messageOf i)))) }
+    ensures { result ≡ sum_of (frame_of (some (message (message_of i)))) }
 {
     let seq = i % 4294967294 + 1;
     let n = (i % 7) as usize + 2;

@@ -7,7 +7,7 @@ use native.Mathlib.Omega.{arith}
 use lib.ListN.{length, get_or, drop, set, length-append, length-set}
 use lib.Seq.{sets, drop-cons, drop-length}
 use Rattle.rules.specs.Bytes.{bytes, all_bytes}
-use Rattle.rules.proofs.BytesLaws.{length-bytes, bytes-suc, length-allBytes}
+use Rattle.rules.proofs.BytesLaws.{length-bytes, bytes-suc, length-all_bytes}
 use Rattle.rules.proofs.StoresLaws.{sets-++, set-sets}
 
 -- ---- a number of w bytes: j are left, and they say `left`
@@ -60,7 +60,7 @@ pub record Listed (d₀ : List ℕ) (at w : ℕ) (xs d : List ℕ) (i to : ℕ) 
   pub rest : sets d to (all_bytes w (drop i xs)) ≡ sets d₀ at (all_bytes w xs)
 
 pub none-listed : (d : List ℕ) (at w : ℕ) (xs : List ℕ) → at + w * length xs ≤ length d → Listed d at w xs d 0 at
-none-listed d at w xs h = record { count = omega arith; long = refl; room = omega (arith, length-allBytes w xs); rest = refl }
+none-listed d at w xs h = record { count = omega arith; long = refl; room = omega (arith, length-all_bytes w xs); rest = refl }
 
 module _ (d₀ : List ℕ) (at w : ℕ) (xs d : List ℕ) (i to : ℕ) (r : Listed d₀ at w xs d i to) where
   module _ (h : i < length xs) where

@@ -8,8 +8,8 @@ use lib.Seq.{sets}
 use Rattle.rules.specs.Bytes.{bytes, all_bytes}
 use Rattle.rules.specs.Fields.{table, row_of, field}
 use Rattle.rules.specs.Lawful.{Each}
-use Rattle.rules.proofs.BytesLaws.{length-allBytes, allBytes-one}
-use Rattle.rules.proofs.FieldsLaws.{usable-rowOf}
+use Rattle.rules.proofs.BytesLaws.{length-all_bytes, all_bytes-one}
+use Rattle.rules.proofs.FieldsLaws.{usable-row_of}
 use Rattle.rules.proofs.MessageLaws.{table-usable}
 use Rattle.frame.specs.declared.table.Row.{Row}
 use Rattle.frame.specs.Table.{line_of}
@@ -30,7 +30,7 @@ module _ (t : ℕ) (v : List ℕ) (p : ℕ) (d : List ℕ) (room : FieldRoom t v
   width_is = ap (λ (x : Row). x.width) (sym e)
 
   pub numbers-short : r.width * length v < 65536
-  numbers-short = rw width_is at (let h : (row_of table t).width * length v < 65536 = omega (arith, room.content.greatest, (usable-rowOf table table-usable t).short) in h)
+  numbers-short = rw width_is at (let h : (row_of table t).width * length v < 65536 = omega (arith, room.content.greatest, (usable-row_of table table-usable t).short) in h)
 
   pub numbers-narrow : Each (λ x. x < 256 ^ r.width) v
   numbers-narrow = subst (λ w. Each (λ x. x < 256 ^ w) v) width_is room.content.each
@@ -45,7 +45,7 @@ module _ (t : ℕ) (v : List ℕ) (p : ℕ) (d : List ℕ) (room : FieldRoom t v
       let place : p + 3 + w * length v ≡ p + (3 + w * length v) = omega arith in
       record {
         next = place ∙ ap (λ w. p + (3 + w * length v)) (sym width_is);
-        stores = field_stored d d₁ d₂ p t (w * length v) (all_bytes w v) (length-allBytes w v) e₁ e₂ ∙ ap (λ w. sets d p (field t (all_bytes w v))) (sym width_is);
+        stores = field_stored d d₁ d₂ p t (w * length v) (all_bytes w v) (length-all_bytes w v) e₁ e₂ ∙ ap (λ w. sets d p (field t (all_bytes w v))) (sym width_is);
       }
 
 -- bytes, which are numbers of width 1
@@ -54,14 +54,14 @@ module _ (v : List ℕ) (p : ℕ) (d : List ℕ) (room : FieldRoom 10 v p d) whe
   unfolding table row_of
   text-short = omega (arith, room.content.greatest)
 
-  pub text-room : p + (3 + length v) ≤ length d
+  pub text_room : p + (3 + length v) ≤ length d
   unfolding table row_of
-  text-room = omega (arith, room.room)
+  text_room = omega (arith, room.room)
 
   pub text-written : (d₁ d₂ : List ℕ) → d₁ ≡ sets d p (10 ∷ bytes 2 (length v)) → d₂ ≡ sets d₁ (p + 3) v → FieldWritten 10 v p d (p + 3 + length v) d₂
   unfolding table row_of
   text-written d₁ d₂ e₁ e₂ =
       record {
         next = omega arith;
-        stores = field_stored d d₁ d₂ p 10 (length v) v refl e₁ e₂ ∙ ap (λ c. sets d p (field 10 c)) (sym (allBytes-one v));
+        stores = field_stored d d₁ d₂ p 10 (length v) v refl e₁ e₂ ∙ ap (λ c. sets d p (field 10 c)) (sym (all_bytes-one v));
       }

@@ -8,16 +8,16 @@ use native.Mathlib.Omega.{arith}
 use lib.ListN.{length}
 use lib.Seq.{sets}
 use borrow.Author.Tests.{ne_eqb}
-use Rattle.rules.specs.Fields.{table, row_of, tagsOf, print}
+use Rattle.rules.specs.Fields.{table, row_of, tags_of, print}
 use Rattle.rules.specs.Lawful.{Each, Bytes, Contents}
-use Rattle.rules.proofs.BytesLaws.{length-allBytes}
-use Rattle.rules.proofs.FieldsLaws.{tagsLeft, size, length-print}
+use Rattle.rules.proofs.BytesLaws.{length-all_bytes}
+use Rattle.rules.proofs.FieldsLaws.{tags_left, size, length-print}
 use Rattle.frame.specs.Table.{has}
 use Rattle.frame.proofs.Lines.{tags-step, tags-end}
 use Rattle.rules.proofs.StoresLaws.{sets-++}
 use Rattle.framewrite.specs.declared.fields.Singles.{Singles}
 use Rattle.framewrite.specs.Field.{field_of, size_of, FieldRoom, FieldWritten}
-use Rattle.framewrite.specs.Fields.{number_of, contentOf, contentsOf, fields_of, FieldsRoom}
+use Rattle.framewrite.specs.Fields.{number_of, content_of, contents_of, fields_of, FieldsRoom}
 
 -- ---- the content of a field
 
@@ -25,16 +25,16 @@ pub number-rest : (m : Singles) (t : ℕ) → t ≢ 1 → t ≢ 2 → t ≢ 3 �
 number-rest m t a b c d e f g = rw (ne_eqb t 1 a, ne_eqb t 2 b, ne_eqb t 3 c, ne_eqb t 4 d, ne_eqb t 5 e, ne_eqb t 7 f, ne_eqb t 8 g)
 
 module _ (m : Singles) (ack text : List ℕ) (t : ℕ) where
-  pub content-ack : t ≡ 6 → contentOf m ack text t ≡ ack
-  unfolding contentOf
+  pub content-ack : t ≡ 6 → content_of m ack text t ≡ ack
+  unfolding content_of
   content-ack e = rw e
 
-  pub content-text : t ≡ 10 → contentOf m ack text t ≡ text
-  unfolding contentOf
+  pub content-text : t ≡ 10 → content_of m ack text t ≡ text
+  unfolding content_of
   content-text e = rw e
 
-  pub content-one : t ≢ 6 → t ≢ 10 → contentOf m ack text t ≡ number_of m t ∷ []
-  unfolding contentOf
+  pub content-one : t ≢ 6 → t ≢ 10 → content_of m ack text t ≡ number_of m t ∷ []
+  unfolding content_of
   content-one a b = rw (ne_eqb t 6 a, ne_eqb t 10 b)
 
 -- ---- the fields that are left
@@ -46,22 +46,22 @@ pub record Left (f : ℕ → List ℕ) (ts d : List ℕ) (p : ℕ) (whole : List
   pub rest : sets d p (print table ts (map f ts)) ≡ whole
 
 length-field : (t : ℕ) (v : List ℕ) → length (field_of t v) ≡ size_of t v
-length-field t v = omega (arith, length-allBytes (row_of table t).width v)
+length-field t v = omega (arith, length-all_bytes (row_of table t).width v)
 
-module _ (f : ℕ → List ℕ) (t k : ℕ) (low : 1 ≤ t) (high : t ≤ 10) (d : List ℕ) (p : ℕ) (whole : List ℕ) (l : Left f (tagsLeft table t k) d p whole) where
-  passed : has t k ≡ false → Left f (tagsLeft table (t + 1) k) d p whole
+module _ (f : ℕ → List ℕ) (t k : ℕ) (low : 1 ≤ t) (high : t ≤ 10) (d : List ℕ) (p : ℕ) (whole : List ℕ) (l : Left f (tags_left table t k) d p whole) where
+  passed : has t k ≡ false → Left f (tags_left table (t + 1) k) d p whole
   passed n = subst (λ ts. Left f ts d p whole) (tags-step t k low high false n) l
 
   module _ (y : has t k ≡ true) where
-    here : Left f (t ∷ tagsLeft table (t + 1) k) d p whole
+    here : Left f (t ∷ tags_left table (t + 1) k) d p whole
     here = subst (λ ts. Left f ts d p whole) (tags-step t k low high true y) l
 
     field_room : FieldRoom t (f t) p d
     field_room = record { content = here.contents.0; room = omega (arith, here.room) }
 
-    laid : (r : ℕ) (d' : List ℕ) → FieldWritten t (f t) p d r d' → length d' ≡ length d → Left f (tagsLeft table (t + 1) k) d' r whole
+    laid : (r : ℕ) (d' : List ℕ) → FieldWritten t (f t) p d r d' → length d' ≡ length d → Left f (tags_left table (t + 1) k) d' r whole
     laid r d' w e =
-        let ts = tagsLeft table (t + 1) k in
+        let ts = tags_left table (t + 1) k in
         let rest = print table ts (map f ts) in
         record {
           contents = here.contents.1;
@@ -79,10 +79,10 @@ pub record Ahead (m : Singles) (ack text d₀ d : List ℕ) (at tag : ℕ) : Typ
   pub low : 1 ≤ tag
   pub high : tag ≤ 11
   pub long : length d ≡ length d₀
-  pub left : Left (contentOf m ack text) (tagsLeft table tag m.kind) d at (sets d₀ 0 (fields_of m ack text))
+  pub left : Left (content_of m ack text) (tags_left table tag m.kind) d at (sets d₀ 0 (fields_of m ack text))
 
 pub all-ahead : (m : Singles) (ack text d : List ℕ) → FieldsRoom m ack text d → Each (λ x. x < 256 ^ 4) ack → Bytes text → Ahead m ack text d d 0 1
-unfolding tagsOf
+unfolding tags_of
 all-ahead m ack text d r a b =
     record {
       low = omega arith;
@@ -91,7 +91,7 @@ all-ahead m ack text d r a b =
       left =
           record {
             contents = r.contents a b;
-            room = omega (arith, r.room, length-print table (tagsOf table m.kind) (contentsOf m ack text));
+            room = omega (arith, r.room, length-print table (tags_of table m.kind) (contents_of m ack text));
             rest = refl;
           };
     }
@@ -102,13 +102,13 @@ module _ (m : Singles) (ack text d₀ d : List ℕ) (at tag : ℕ) (r : Ahead m 
     passed-by n =
         record { low = omega arith; high = omega arith; long = r.long; left = passed _ tag m.kind r.low h d at _ r.left n }
 
-    pub room-ahead : has tag m.kind ≡ true → FieldRoom tag (contentOf m ack text tag) at d
+    pub room-ahead : has tag m.kind ≡ true → FieldRoom tag (content_of m ack text tag) at d
     room-ahead y = field_room _ tag m.kind r.low h d at _ r.left y
 
-    pub one-laid : has tag m.kind ≡ true → (next : ℕ) (d' : List ℕ) → FieldWritten tag (contentOf m ack text tag) at d next d' → length d' ≡ length d
+    pub one-laid : has tag m.kind ≡ true → (next : ℕ) (d' : List ℕ) → FieldWritten tag (content_of m ack text tag) at d next d' → length d' ≡ length d
         → Ahead m ack text d₀ d' next (tag + 1)
     one-laid y next d' w k =
         record { low = omega arith; high = omega arith; long = k ∙ r.long; left = laid _ tag m.kind r.low h d at _ r.left y next d' w k }
 
   pub none_ahead : tag ≡ 11 → d ≡ sets d₀ 0 (fields_of m ack text)
-  none_ahead e = (subst (λ ts. Left (contentOf m ack text) ts d at (sets d₀ 0 (fields_of m ack text))) (tags-end tag m.kind e) r.left).rest
+  none_ahead e = (subst (λ ts. Left (content_of m ack text) ts d at (sets d₀ 0 (fields_of m ack text))) (tags-end tag m.kind e) r.left).rest

@@ -16,8 +16,8 @@ use Rattle.rules.proofs.MapsLaws.{and_both}
 use Rattle.rules.proofs.CallsLaws.{Refused, now, later, decide-cases}
 use Rattle.rules.proofs.MessageLaws.{decode-encode, length-message, length-request}
 use Rattle.frame.specs.declared.Frame.{Frame}
-use Rattle.frame.specs.Frame.{frame_of, payloadOf}
-use Rattle.framewrite.specs.Writing.{Writing, writing, dataChecks, dataWritten, requestChecks, requestWritten, Wrote}
+use Rattle.frame.specs.Frame.{frame_of, payload_of}
+use Rattle.framewrite.specs.Writing.{Writing, writing, data_checks, data_written, request_checks, request_written, Wrote}
 
 -- no check answers 0, so 0 means that the frame was written
 abbrev refusing : List Check → Bool
@@ -40,27 +40,27 @@ module _ (x : Said) (g : Lawful x) (out after : List ℕ) (e : after ≡ written
   read-frame : (r : Frame) → r ≡ frame_of (decode (take (length (encode x)) after)) → r ≡ frame_of (some x)
   read-frame r h = h ∙ ap frame_of (read_back x g out after e)
 
-  read-payload : (p : List ℕ) → p ≡ payloadOf (decode (take (length (encode x)) after)) → p ≡ payloadOf (some x)
-  read-payload p h = h ∙ ap payloadOf (read_back x g out after e)
+  read-payload : (p : List ℕ) → p ≡ payload_of (decode (take (length (encode x)) after)) → p ≡ payload_of (some x)
+  read-payload p h = h ∙ ap payload_of (read_back x g out after e)
 
 -- write_data, and then read and payload of the bytes written
-module _ (n : ℕ) (m : Message) (g : Lawful (message m)) (out after : List ℕ) (w : Wrote (dataWritten n m out) 0 after) where
+module _ (n : ℕ) (m : Message) (g : Lawful (message m)) (out after : List ℕ) (w : Wrote (data_written n m out) 0 after) where
   message-written : after ≡ written out (encode (message m))
-  unfolding dataWritten
-  message-written = w.leaves ∙ writing-0 (dataChecks n m out) (encode (message m)) out refl w.answers
+  unfolding data_written
+  message-written = w.leaves ∙ writing-0 (data_checks n m out) (encode (message m)) out refl w.answers
 
   pub read-write-data : (r : Frame) → r ≡ frame_of (decode (take (37 + 4 * length m.ack + length m.text) after)) → r ≡ frame_of (some (message m))
   read-write-data r h = read-frame (message m) g out after message-written r (rw (length-message m) h)
 
-  pub payload-write-data : (p : List ℕ) → p ≡ payloadOf (decode (take (37 + 4 * length m.ack + length m.text) after)) → p ≡ m.text
-  unfolding payloadOf
+  pub payload-write-data : (p : List ℕ) → p ≡ payload_of (decode (take (37 + 4 * length m.ack + length m.text) after)) → p ≡ m.text
+  unfolding payload_of
   payload-write-data p h = read-payload (message m) g out after message-written p (rw (length-message m) h)
 
 -- write_request, and then read
-module _ (n : ℕ) (x : Request) (g : Lawful (request x)) (out after : List ℕ) (w : Wrote (requestWritten n x out) 0 after) where
+module _ (n : ℕ) (x : Request) (g : Lawful (request x)) (out after : List ℕ) (w : Wrote (request_written n x out) 0 after) where
   request-written : after ≡ written out (encode (request x))
-  unfolding requestWritten
-  request-written = w.leaves ∙ writing-0 (requestChecks n x out) (encode (request x)) out refl w.answers
+  unfolding request_written
+  request-written = w.leaves ∙ writing-0 (request_checks n x out) (encode (request x)) out refl w.answers
 
   pub read-write-request : (r : Frame) → r ≡ frame_of (decode (take (33 + 4 * length x.ack) after)) → r ≡ frame_of (some (request x))
   read-write-request r h = read-frame (request x) g out after request-written r (rw (length-request x) h)

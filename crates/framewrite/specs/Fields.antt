@@ -1,6 +1,6 @@
 -- The numbers in each field of a message as the code holds them, and the fields of its kind.
 use Rattle.std.specs.Prelude.{cond, List, [], ◌∷◌, map, ℕ, ◌^◌, ◌≤◌, ◌<◌, eqb, length}
-use Rattle.rules.specs.Fields.{table, tagsOf, print}
+use Rattle.rules.specs.Fields.{table, tags_of, print}
 use Rattle.rules.specs.Message.{edition}
 use Rattle.rules.specs.Lawful.{Each, Bytes, Contents}
 use Rattle.framewrite.specs.declared.fields.Singles.{Singles}
@@ -16,17 +16,17 @@ number_of m t =
 
 module _ (m : Singles) (ack text : List ℕ) where
   -- the numbers in the field of tag t
-  unfoldable pub contentOf : ℕ → List ℕ
-  contentOf t = cond (eqb t 6) ack (cond (eqb t 10) text (number_of m t ∷ []))
+  unfoldable pub content_of : ℕ → List ℕ
+  content_of t = cond (eqb t 6) ack (cond (eqb t 10) text (number_of m t ∷ []))
 
   -- in each field of the kind, in rising tag order
-  abbrev pub contentsOf : List (List ℕ)
-  contentsOf = map contentOf (tagsOf table m.kind)
+  abbrev pub contents_of : List (List ℕ)
+  contents_of = map content_of (tags_of table m.kind)
 
   abbrev pub fields_of : List ℕ
-  fields_of = print table (tagsOf table m.kind) contentsOf
+  fields_of = print table (tags_of table m.kind) contents_of
 
   -- the numbers can stand in the fields, those of the slices being of four bytes and of one, and the output has room
   pub record FieldsRoom (out : List ℕ) : Type 0 where
-    pub contents : Each (λ x. x < 256 ^ 4) ack → Bytes text → Contents table (tagsOf table m.kind) contentsOf
+    pub contents : Each (λ x. x < 256 ^ 4) ack → Bytes text → Contents table (tags_of table m.kind) contents_of
     pub room : length fields_of ≤ length out

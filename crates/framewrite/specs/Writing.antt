@@ -14,27 +14,27 @@ writing checks l out =
     decide checks (λ a. record { answer = a; output = out }) (record { answer = 0; output = written out l })
 
 -- n is the count of ACK that the caller names
-abbrev pub dataChecks : ℕ → Message → List ℕ → List Check
-dataChecks n m out =
+abbrev pub data_checks : ℕ → Message → List ℕ → List Check
+data_checks n m out =
     (not (between 2 8 n) ⇒ 5)
     ∷ (ltb 48 (length m.text) ⇒ 13)
     ∷ (ltb (length out) (37 + 4 * n + length m.text) ⇒ 16)
     ∷ []
 
-unfoldable pub dataWritten : ℕ → Message → List ℕ → Writing
-dataWritten n m out = writing (dataChecks n m out) (encode (message m)) out
+unfoldable pub data_written : ℕ → Message → List ℕ → Writing
+data_written n m out = writing (data_checks n m out) (encode (message m)) out
 
-abbrev pub requestChecks : ℕ → Request → List ℕ → List Check
-requestChecks n r out = (not (between 2 8 n) ⇒ 5) ∷ (ltb (length out) (33 + 4 * n) ⇒ 16) ∷ []
+abbrev pub request_checks : ℕ → Request → List ℕ → List Check
+request_checks n r out = (not (between 2 8 n) ⇒ 5) ∷ (ltb (length out) (33 + 4 * n) ⇒ 16) ∷ []
 
-unfoldable pub requestWritten : ℕ → Request → List ℕ → Writing
-requestWritten n r out = writing (requestChecks n r out) (encode (request r)) out
+unfoldable pub request_written : ℕ → Request → List ℕ → Writing
+request_written n r out = writing (request_checks n r out) (encode (request r)) out
 
-abbrev pub messageOf : ℕ → ℕ → ℕ → List ℕ → ℕ → List ℕ → Message
-messageOf cid src seq ack buf text = record { cid = cid; src = src; seq = seq; ack = ack; buf = buf; text = text }
+abbrev pub message_of : ℕ → ℕ → ℕ → List ℕ → ℕ → List ℕ → Message
+message_of cid src seq ack buf text = record { cid = cid; src = src; seq = seq; ack = ack; buf = buf; text = text }
 
-abbrev pub requestOf : ℕ → ℕ → List ℕ → ℕ → ℕ → Request
-requestOf cid src ack lsrc lseq = record { cid = cid; src = src; ack = ack; lsrc = lsrc; lseq = lseq }
+abbrev pub request_of : ℕ → ℕ → List ℕ → ℕ → ℕ → Request
+request_of cid src ack lsrc lseq = record { cid = cid; src = src; ack = ack; lsrc = lsrc; lseq = lseq }
 
 -- the answer, and the whole output
 pub record Wrote (w : Writing) (answer : ℕ) (after : List ℕ) : Type 0 where

@@ -2,7 +2,7 @@
 ghost use Rattle.std.specs.Prelude.{◌≡◌};
 ghost use Rattle.std.proofs.lemmas.List.Edits.{sets};
 ghost use Rattle.framewrite.specs.Field.{FieldRoom, FieldWritten};
-ghost use Rattle.framewrite.specs.Fields.{number_of, contentOf, FieldsRoom, fields_of};
+ghost use Rattle.framewrite.specs.Fields.{number_of, content_of, FieldsRoom, fields_of};
 
 use crate::field::{ACK, DATA, put_field, put_text};
 use frame::table::has_tag;
@@ -37,8 +37,8 @@ fn number_of(m: Singles, tag: u8) -> u32
 
 // Writes the field of a tag, and gives the place after it.
 fn put_tag(d: &mut [u8], at: usize, tag: u8, m: Singles, ack: &[u32], text: &[u8]) -> usize
-    requires { FieldRoom tag (contentOf m ack.now text.now tag) at d.old }
-    ensures { FieldWritten tag (contentOf m ack.now text.now tag) at d.old result d.new }
+    requires { FieldRoom tag (content_of m ack.now text.now tag) at d.old }
+    ensures { FieldWritten tag (content_of m ack.now text.now tag) at d.old result d.new }
 {
     if tag == ACK {
         return put_field(d, at, tag, ack);

@@ -1,6 +1,6 @@
 // Writing frames, by the table of tags that the reader has.
 ghost use Rattle.std.specs.Prelude.{take};
-ghost use Rattle.framewrite.specs.Writing.{messageOf, requestOf, dataWritten, requestWritten, Wrote};
+ghost use Rattle.framewrite.specs.Writing.{message_of, request_of, data_written, request_written, Wrote};
 
 mod field;
 mod fields;
@@ -22,7 +22,7 @@ pub fn write_data(
     buf: u16,
     text: &[u8],
 ) -> u32
-    ensures { Wrote (dataWritten n (messageOf cid src seq (take n ack.now) buf text.now) out.old) result out.new }
+    ensures { Wrote (data_written n (message_of cid src seq (take n ack.now) buf text.now) out.old) result out.new }
 {
     let all = &ack[..];
     if !count_fits(n) {
@@ -57,7 +57,7 @@ pub fn write_request(
     lsrc: u8,
     lseq: u32,
 ) -> u32
-    ensures { Wrote (requestWritten n (requestOf cid src (take n ack.now) lsrc lseq) out.old) result out.new }
+    ensures { Wrote (request_written n (request_of cid src (take n ack.now) lsrc lseq) out.old) result out.new }
 {
     let all = &ack[..];
     if !count_fits(n) {

@@ -61,17 +61,17 @@ module _ {A : Type 0} where
   ahead-back x y (z ∷ l) (here e m) = Mem.tail m
   ahead-back x y (z ∷ l) (there a) = Mem.tail (ahead-back x y l a)
 
-  pub mem-getD : (l : List A) (s : ℕ) (d : A) → s < length l → Mem (get_or l s d) l
-  mem-getD [] s d h = absurd (omega arith)
-  mem-getD (x ∷ l) zero d h = Mem.head refl
-  mem-getD (x ∷ l) (suc s) d h = Mem.tail (mem-getD l s d (omega arith))
+  pub mem-get_or : (l : List A) (s : ℕ) (d : A) → s < length l → Mem (get_or l s d) l
+  mem-get_or [] s d h = absurd (omega arith)
+  mem-get_or (x ∷ l) zero d h = Mem.head refl
+  mem-get_or (x ∷ l) (suc s) d h = Mem.tail (mem-get_or l s d (omega arith))
 
 module _ {A : Type 0} (d : A) where
-  pub ahead-getD : (l : List A) (x y : ℕ) → x < y → y < length l → Ahead (get_or l x d) (get_or l y d) l
-  ahead-getD [] x y h k = absurd (omega arith)
-  ahead-getD (z ∷ l) x zero h k = absurd (omega arith)
-  ahead-getD (z ∷ l) zero (suc y) h k = here refl (mem-getD l y d (omega arith))
-  ahead-getD (z ∷ l) (suc x) (suc y) h k = there (ahead-getD l x y (omega arith) (omega arith))
+  pub ahead-get_or : (l : List A) (x y : ℕ) → x < y → y < length l → Ahead (get_or l x d) (get_or l y d) l
+  ahead-get_or [] x y h k = absurd (omega arith)
+  ahead-get_or (z ∷ l) x zero h k = absurd (omega arith)
+  ahead-get_or (z ∷ l) zero (suc y) h k = here refl (mem-get_or l y d (omega arith))
+  ahead-get_or (z ∷ l) (suc x) (suc y) h k = there (ahead-get_or l x y (omega arith) (omega arith))
 
 pub mem-map : {A B : Type 0} (f : A → B) (x : A) (l : List A) → Mem x l → Mem (f x) (map f l)
 mem-map f x (y ∷ l) (Mem.head e) = Mem.head (ap f e)

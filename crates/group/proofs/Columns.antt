@@ -7,13 +7,13 @@ use native.Mathlib.Nat.{le_trans}
 use Rattle.rules.specs.Maps.{least}
 use Rattle.rules.proofs.MapsLaws.{least-le, least-glb}
 use Rattle.group.specs.Runs.{Index}
-use Rattle.group.proofs.Course.{Course, Sent, ackOf, said, said-suc, said-first}
+use Rattle.group.proofs.Course.{Course, Sent, ack_of, said, said-suc, said-first}
 use Rattle.group.proofs.Numbers.{Numbers, Closed}
 
 -- v is what is known of j's expectations where j's messages below r were accepted
 pub record Column (c : Course) (R : ℕ → ℕ → ℕ) (j r : ℕ) (v : ℕ → ℕ) : Type 0 where
   pub within : (k : ℕ) → Index c.n k → v k ≤ R j k
-  pub closed : (k s x : ℕ) → Index c.n k → Index c.n x → c.first k ≤ s → s < v k → ackOf (c.msg k s) x ≤ v x
+  pub closed : (k s x : ℕ) → Index c.n k → Index c.n x → c.first k ≤ s → s < v k → ack_of (c.msg k s) x ≤ v x
   pub reaches : (k : ℕ) → Index c.n k → said c j r k ≤ v k
 
 -- v is just what the last of them said
@@ -37,11 +37,11 @@ module _ {c : Course} {j r : ℕ} {v : ℕ → ℕ} (start : r ≡ c.first j) (f
 
 -- ---- of a message just accepted, its ACK
 
-pub says-message : (c : Course) (j s : ℕ) → c.first j ≤ s → Says c j (suc s) (ackOf (c.msg j s))
+pub says-message : (c : Course) (j s : ℕ) → c.first j ≤ s → Says c j (suc s) (ack_of (c.msg j s))
 says-message c j s h = record { says = λ k kn. ap (λ (v : ℕ → ℕ). v k) (sym (said-suc c j s h)) }
 
 pub column-message : {c : Course} {top : ℕ → ℕ} {R : ℕ → ℕ → ℕ} → Numbers c top R → Closed c top R → {j s : ℕ} → Sent c top j s
-    → Column c R j (suc s) (ackOf (c.msg j s))
+    → Column c R j (suc s) (ack_of (c.msg j s))
 column-message {c} I C {j} {s} h =
     record {
       within = λ k kn. I.past j s k h kn;

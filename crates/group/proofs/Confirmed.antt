@@ -9,8 +9,8 @@ use Rattle.rules.specs.Message.{Message}
 use Rattle.rules.specs.State.{Place, from}
 use Rattle.rules.proofs.StepsLaws.{from-append}
 use Rattle.group.specs.Runs.{Index, Did}
-use Rattle.group.specs.Causality.{Ahead, sentIn}
-use Rattle.group.specs.Demand.{inMessage, inPlace}
+use Rattle.group.specs.Causality.{Ahead, sent_in}
+use Rattle.group.specs.Demand.{in_message, in_place}
 use Rattle.group.proofs.All.{All, all_left, all-mem, ahead-front}
 use Rattle.group.proofs.Senders.{all_from, all-src, from-ahead, Upward, upward-left, upward-ahead}
 use Rattle.group.proofs.Course.{Course, nothing}
@@ -19,7 +19,7 @@ use Rattle.group.proofs.Lists.{Holds, Part, Lists}
 use Rattle.group.proofs.Agrees.{Listed}
 
 -- a place says what its message says
-pub holds-content : {c : Course} {top : ℕ → ℕ} → Spoken c top → (p : Place) → Holds c top p → inPlace p ≡ inMessage (c.msg p.src p.seq)
+pub holds-content : {c : Course} {top : ℕ → ℕ} → Spoken c top → (p : Place) → Holds c top p → in_place p ≡ in_message (c.msg p.src p.seq)
 holds-content H p h t =
     record {
       src = sym (H.src p.src p.seq h.sent) t;
@@ -29,15 +29,15 @@ holds-content H p h t =
     }
 
 -- places of j whose numbers rise from a hold j's messages from a on
-upward-says : {c : Course} {top : ℕ → ℕ} → Spoken c top → (j : ℕ) (log : List Did) → Listed c j log → top j ≡ c.first j + length (sentIn log)
+upward-says : {c : Course} {top : ℕ → ℕ} → Spoken c top → (j : ℕ) (log : List Did) → Listed c j log → top j ≡ c.first j + length (sent_in log)
     → (a : ℕ) (l : List Place) (b : ℕ) → c.first j ≤ a → Upward a l b → All (Holds c top) l → All (λ p. p.src ≡ j) l
-    → map inPlace l ≡ take (length l) (map inMessage (drop (a - c.first j) (sentIn log)))
+    → map in_place l ≡ take (length l) (map in_message (drop (a - c.first j) (sent_in log)))
 upward-says H j log listed end a [] b low up holds srcs = refl
 upward-says {c} {top} H j log listed end a (p ∷ l) b low up holds srcs =
     (λ t. content t ∷ upward-says H j log listed end (suc a) l b (omega arith) up.1 holds.1 srcs.1 t)
-    ∙ ap (λ x. inMessage (get_or (sentIn log) (a - c.first j) nothing) ∷ take (length l) (map inMessage (drop x (sentIn log)))) next
-    ∙ ap (λ (x : List Message). take (suc (length l)) (map inMessage x))
-    (sym (drop-cons (sentIn log) (a - c.first j) nothing (omega (arith, high))))
+    ∙ ap (λ x. in_message (get_or (sent_in log) (a - c.first j) nothing) ∷ take (length l) (map in_message (drop x (sent_in log)))) next
+    ∙ ap (λ (x : List Message). take (suc (length l)) (map in_message x))
+    (sym (drop-cons (sent_in log) (a - c.first j) nothing (omega (arith, high))))
   where
     high : a < top j
     high = subst₂ (λ x k. x < top k) up.0 srcs.0 holds.0.sent.high
@@ -45,9 +45,9 @@ upward-says {c} {top} H j log listed end a (p ∷ l) b low up holds srcs =
     next : suc a - c.first j ≡ suc (a - c.first j)
     next = omega arith
 
-    content : inPlace p ≡ inMessage (get_or (sentIn log) (a - c.first j) nothing)
+    content : in_place p ≡ in_message (get_or (sent_in log) (a - c.first j) nothing)
     content =
-        holds-content H p holds.0 ∙ ap inMessage (ap₂ c.msg srcs.0 up.0 ∙ sym (listed a low (omega (arith, high))))
+        holds-content H p holds.0 ∙ ap in_message (ap₂ c.msg srcs.0 up.0 ∙ sym (listed a low (omega (arith, high))))
 
 module _ {c : Course} {top pre : ℕ → ℕ} {done : List Place} {u : Part} (L : Lists c top pre done u) where
   done-lane : (k : ℕ) → Index c.n k → Upward (c.first k) (from k done) (c.first k + length (from k done))
@@ -58,12 +58,12 @@ module _ {c : Course} {top pre : ℕ → ℕ} {done : List Place} {u : Part} (L 
   done-holds : All (Holds c top) done
   done-holds = all_left (Holds c top) done u.ordered L.holds
 
-  pub done-firsts : Spoken c top → (k : ℕ) → Index c.n k → (log : List Did) → Listed c k log → top k ≡ c.first k + length (sentIn log)
-      → map inPlace (from k done) ≡ take (length (from k done)) (map inMessage (sentIn log))
+  pub done-firsts : Spoken c top → (k : ℕ) → Index c.n k → (log : List Did) → Listed c k log → top k ≡ c.first k + length (sent_in log)
+      → map in_place (from k done) ≡ take (length (from k done)) (map in_message (sent_in log))
   done-firsts H k kn log listed end =
       upward-says H k log listed end (c.first k) (from k done) (c.first k + length (from k done)) (omega arith) (done-lane k kn)
       (all_from (Holds c top) k done done-holds) (all-src k done)
-      ∙ ap (λ x. take (length (from k done)) (map inMessage (drop x (sentIn log)))) (let e : c.first k - c.first k ≡ 0 = omega arith in e)
+      ∙ ap (λ x. take (length (from k done)) (map in_message (drop x (sent_in log)))) (let e : c.first k - c.first k ≡ 0 = omega arith in e)
 
   pub done-units : (p : Place) → Mem p done → Index c.n p.src
   done-units p m = (all-mem (Holds c top) p done m done-holds).sent.index

@@ -27,27 +27,27 @@ pub record Sent (c : Course) (top : ℕ → ℕ) (j s : ℕ) : Type 0 where
 abbrev pub nothing : Message
 nothing = record { cid = 0; src = 0; seq = 0; ack = []; buf = 0; text = [] }
 
-abbrev pub ackOf : Message → ℕ → ℕ
-ackOf m k = at m.ack k
+abbrev pub ack_of : Message → ℕ → ℕ
+ack_of m k = at m.ack k
 
 -- what j's messages below r say that j expects of k: ACK_k of the last of them, or the first number
 unfoldable pub said : Course → ℕ → ℕ → ℕ → ℕ
-said c j r k = cond (ltb (c.first j) r) (ackOf (c.msg j (r - 1)) k) (c.first k)
+said c j r k = cond (ltb (c.first j) r) (ack_of (c.msg j (r - 1)) k) (c.first k)
 
 module _ (c : Course) (j r : ℕ) where
   pub said-cases : (P : (ℕ → ℕ) → Type 0) → (r ≤ c.first j → P c.first)
-      → ((s : ℕ) → r ≡ suc s → c.first j ≤ s → P (ackOf (c.msg j s))) → P (said c j r)
+      → ((s : ℕ) → r ≡ suc s → c.first j ≤ s → P (ack_of (c.msg j s))) → P (said c j r)
   unfolding said
   said-cases P f g = go (lt? (c.first j) r)
     where
-      go : {t : Bool} → Lt? (c.first j) r t → P (λ k. cond t (ackOf (c.msg j (r - 1)) k) (c.first k))
+      go : {t : Bool} → Lt? (c.first j) r t → P (λ k. cond t (ack_of (c.msg j (r - 1)) k) (c.first k))
       go (lt h) = g (r - 1) (omega arith) (omega arith)
       go (ge h) = f h
 
-pub said-suc : (c : Course) (j s : ℕ) → c.first j ≤ s → said c j (suc s) ≡ ackOf (c.msg j s)
+pub said-suc : (c : Course) (j s : ℕ) → c.first j ≤ s → said c j (suc s) ≡ ack_of (c.msg j s)
 said-suc c j s h =
-    said-cases c j (suc s) (λ v. v ≡ ackOf (c.msg j s)) (λ x. absurd (omega arith))
-    (λ t e x. let q : t ≡ s = omega arith in subst (λ y. ackOf (c.msg j y) ≡ ackOf (c.msg j s)) (sym q) refl)
+    said-cases c j (suc s) (λ v. v ≡ ack_of (c.msg j s)) (λ x. absurd (omega arith))
+    (λ t e x. let q : t ≡ s = omega arith in subst (λ y. ack_of (c.msg j y) ≡ ack_of (c.msg j s)) (sym q) refl)
 
 pub said-first : (c : Course) (j : ℕ) → said c j (c.first j) ≡ c.first
 said-first c j = said-cases c j (c.first j) (λ v. v ≡ c.first) (λ x. refl) (λ s e x. absurd (omega arith))

@@ -13,9 +13,9 @@ use Rattle.rules.specs.State.{Place, State}
 use Rattle.rules.specs.Steps as Steps
 use Rattle.rules.proofs.MapsLaws.{Eq?, same, other, eq?, upd-all}
 use Rattle.group.specs.Runs.{Index, Did, sent, accepted, Group, updated}
-use Rattle.group.specs.Causality.{sentIn}
+use Rattle.group.specs.Causality.{sent_in}
 use Rattle.group.proofs.All.{All, all_map, all_append}
-use Rattle.group.proofs.Course.{Course, Sent, ackOf, said}
+use Rattle.group.proofs.Course.{Course, Sent, ack_of, said}
 use Rattle.group.proofs.Numbers.{Numbers, Spoken, Closed}
 use Rattle.group.proofs.Growth.{bumped, bumped-same, bumped-other, grown, grown-other, Fresh, written_all, numbers-written, spoken-written, closed-written, Next, numbers-accepted, closed-accepted}
 use Rattle.group.proofs.Lists.{part}
@@ -24,14 +24,14 @@ use Rattle.group.proofs.Logs.{Of, of-message, of-bumped, Tells, tells-now}
 use Rattle.group.proofs.Members.{Member, member-written, member-grown, member-keeping, member-req, member-accepted}
 
 abbrev pub top_of : Course → Group → ℕ → ℕ
-top_of c g j = c.first j + length (sentIn (g.log j))
+top_of c g j = c.first j + length (sent_in (g.log j))
 
 abbrev pub reqs : Group → ℕ → ℕ → ℕ
 reqs g i k = (g.unit i).req k
 
 -- the window at each send: a message's number was below what k expected of its sender, as far as the sender knew, and w more
 pub record Window (c : Course) (top : ℕ → ℕ) : Type 0 where
-  pub near : (j s k : ℕ) → Sent c top j s → Index c.n k → s < said c k (ackOf (c.msg j s) k) j + c.w
+  pub near : (j s k : ℕ) → Sent c top j s → Index c.n k → s < said c k (ack_of (c.msg j s) k) j + c.w
 
 -- numbers stay in the ranges of 01
 pub record Limits (c : Course) (top : ℕ → ℕ) : Type 0 where
@@ -98,7 +98,7 @@ module _ (g : Group) (i : ℕ) (s : State) (frames : List (List ℕ)) (deeds : L
 
   -- where its numbers are now top and R, this is all that is to be shown
   good-updated : (c : Course) (top : ℕ → ℕ) (R : ℕ → ℕ → ℕ)
-      → c.first i + length (sentIn (deeds ++ g.log i)) ≡ top i → ((l : ℕ) → l ≢ i → top_of c g l ≡ top l)
+      → c.first i + length (sent_in (deeds ++ g.log i)) ≡ top i → ((l : ℕ) → l ≢ i → top_of c g l ≡ top l)
       → s.req ≡ R i → ((l : ℕ) → l ≢ i → reqs g l ≡ R l)
       → Fair c top R → ((l : ℕ) → Index c.n l → R l l ≡ top l)
       → Seat c top R i s (deeds ++ g.log i) (g.took i ++ places)
@@ -107,7 +107,7 @@ module _ (g : Group) (i : ℕ) (s : State) (frames : List (List ℕ)) (deeds : L
   unfolding updated
   good-updated c top R t ts r rs F own mine others air new =
       subst₂ (λ (t : ℕ → ℕ) (r : ℕ → ℕ → ℕ). Holding c t r next)
-      (sym (fun_ext (updated-all (λ l u log took. c.first l + length (sentIn log) ≡ top l) t ts)))
+      (sym (fun_ext (updated-all (λ l u log took. c.first l + length (sent_in log) ≡ top l) t ts)))
       (sym (fun_ext (updated-all (λ l u log took. u.req ≡ R l) r rs)))
       (record {
         fair = F;
@@ -168,7 +168,7 @@ module _ {c : Course} {g : Group} (G : Good c g) (i : ℕ) where
 
   -- ---- the next message of i is sent, and accepted by i
 
-  module _ (N : Fresh c top R i) (room : top i < last) (near : (k : ℕ) → Index c.n k → top i < said c k (ackOf (c.msg i (top i)) k) i + c.w)
+  module _ (N : Fresh c top R i) (room : top i < last) (near : (k : ℕ) → Index c.n k → top i < said c k (ack_of (c.msg i (top i)) k) i + c.w)
       (reads : decode (encode (message (c.msg i (top i)))) ≡ some (message (c.msg i (top i)))) where
     -- REQ of the own index is the number
     abbrev m : Message
@@ -198,7 +198,7 @@ module _ {c : Course} {g : Group} (G : Good c g) (i : ℕ) where
           closed = closed-written N G.fair.closed;
           window = record {
             near = λ j s k h kn.
-                written_all N (λ j s. s < said c k (ackOf (c.msg j s) k) j + c.w) (near k kn) (λ j s b. G.fair.window.near j s k b kn) j s h;
+                written_all N (λ j s. s < said c k (ack_of (c.msg j s) k) j + c.w) (near k kn) (λ j s b. G.fair.window.near j s k b kn) j s h;
           };
           readable = record {
             read = written_all N (λ j s. decode (encode (message (c.msg j s))) ≡ some (message (c.msg j s))) reads G.fair.readable.read;
@@ -210,7 +210,7 @@ module _ {c : Course} {g : Group} (G : Good c g) (i : ℕ) where
         record {
           index = N.index;
           sent = record { index = N.index; low = G.fair.numbers.low i i N.index N.index; high = omega (arith, N.own, bumped-same top i) };
-          known = λ k kn d. omega (arith, ap (λ (x : Message). ackOf x k) is, N.ack k kn);
+          known = λ k kn d. omega (arith, ap (λ (x : Message). ack_of x k) is, N.ack k kn);
         }
 
     sent-fair : Fair c (bumped top i) (grown R i i)
@@ -236,13 +236,13 @@ module _ {c : Course} {g : Group} (G : Good c g) (i : ℕ) where
     tells : Tells c i m (encode (message m)) (g.log i)
     tells =
         tells-now (G.members i N.index).logs m (ap (λ (x : Message). x.src) is ∙ N.src)
-        (λ k kn. ap (λ (x : Message). ackOf x k) is ∙ N.ack k kn)
+        (λ k kn. ap (λ (x : Message). ack_of x k) is ∙ N.ack k kn)
 
     pub good-sent : Good c (updated g i (Steps.sent (g.unit i) m) (encode (message m) ∷ []) (sent m (encode (message m)) ∷ []) [])
     unfolding Steps.sent
     good-sent =
         good-updated g i (Steps.sent (g.unit i) m) (encode (message m) ∷ []) (sent m (encode (message m)) ∷ []) [] c (bumped top i) (grown R i i)
-        (omega (arith, length-append (sentIn (g.log i)) (m ∷ []), bumped-same top i)) (λ l d. sym (bumped-other top i l d))
+        (omega (arith, length-append (sent_in (g.log i)) (m ∷ []), bumped-same top i)) (λ l d. sym (bumped-other top i l d))
         (member-req written-fair.numbers written-fair.spoken written-fair.closed A (g.took i) (Steps.keeping (g.unit i) m) refl start)
         (λ l d. sym (grown-other R i i l d))
         sent-fair sent-own

@@ -8,7 +8,7 @@ use native.Mathlib.Nat.{le_refl, le_trans}
 use Rattle.rules.specs.Maps.{upd}
 use Rattle.rules.proofs.MapsLaws.{Lt?, lt, ge, lt?, Eq?, same, other, eq?, upd-all, upd_same, upd_other}
 use Rattle.group.specs.Runs.{Index}
-use Rattle.group.proofs.Course.{Course, Sent, ackOf}
+use Rattle.group.proofs.Course.{Course, Sent, ack_of}
 use Rattle.group.proofs.Numbers.{Numbers, Spoken, Closed}
 
 -- ---- one message more is written: top grows by one at i
@@ -47,7 +47,7 @@ pub record Fresh (c : Course) (top : ℕ → ℕ) (R : ℕ → ℕ → ℕ) (i :
   pub index : Index c.n i
   pub src : (c.msg i (top i)).src ≡ i
   pub seq : (c.msg i (top i)).seq ≡ top i
-  pub ack : (k : ℕ) → Index c.n k → ackOf (c.msg i (top i)) k ≡ R i k
+  pub ack : (k : ℕ) → Index c.n k → ack_of (c.msg i (top i)) k ≡ R i k
   pub own : R i i ≡ top i
 
 module _ {c : Course} {top : ℕ → ℕ} {R : ℕ → ℕ → ℕ} {i : ℕ} (N : Fresh c top R i) where
@@ -64,7 +64,7 @@ module _ {c : Course} {top : ℕ → ℕ} {R : ℕ → ℕ → ℕ} {i : ℕ} (N
           low = I.low;
           high = λ l k ln kn. le_trans (I.high l k ln kn) (bumped-up top i k);
           past = λ j s k h kn.
-              written_all (λ j s. ackOf (c.msg j s) k ≤ R j k) (omega (arith, N.ack k kn)) (λ j s b. I.past j s k b kn) j s h;
+              written_all (λ j s. ack_of (c.msg j s) k ≤ R j k) (omega (arith, N.ack k kn)) (λ j s b. I.past j s k b kn) j s h;
         }
 
     pub spoken-written : Spoken c top → Spoken c (bumped top i)
@@ -72,12 +72,12 @@ module _ {c : Course} {top : ℕ → ℕ} {R : ℕ → ℕ → ℕ} {i : ℕ} (N
         record {
           src = written_all (λ j s. (c.msg j s).src ≡ j) N.src H.src;
           seq = written_all (λ j s. (c.msg j s).seq ≡ s) N.seq H.seq;
-          own = written_all (λ j s. ackOf (c.msg j s) j ≡ s) (N.ack i N.index ∙ N.own) H.own;
+          own = written_all (λ j s. ack_of (c.msg j s) j ≡ s) (N.ack i N.index ∙ N.own) H.own;
           floor = λ j s k h kn.
-              written_all (λ j s. c.first k ≤ ackOf (c.msg j s) k) (omega (arith, N.ack k kn, I.low i k N.index kn))
+              written_all (λ j s. c.first k ≤ ack_of (c.msg j s) k) (omega (arith, N.ack k kn, I.low i k N.index kn))
               (λ j s b. H.floor j s k b kn) j s h;
           mono = λ j s t k a b st kn.
-              written_all (λ j t. Sent c (bumped top i) j s → s ≤ t → ackOf (c.msg j s) k ≤ ackOf (c.msg j t) k)
+              written_all (λ j t. Sent c (bumped top i) j s → s ≤ t → ack_of (c.msg j s) k ≤ ack_of (c.msg j t) k)
               (λ a st. omega (arith, N.ack k kn, numbers-written.past i s k a kn))
               (λ j t b a st. H.mono j s t k (record { index = a.index; low = a.low; high = omega (arith, b.high) }) b st kn)
               j t b a st;
@@ -88,7 +88,7 @@ module _ {c : Course} {top : ℕ → ℕ} {R : ℕ → ℕ → ℕ} {i : ℕ} (N
       record {
         close = C.close;
         chain = λ l t j s k a jn kn low x.
-            written_all (λ l t. s < ackOf (c.msg l t) j → ackOf (c.msg j s) k ≤ ackOf (c.msg l t) k)
+            written_all (λ l t. s < ack_of (c.msg l t) j → ack_of (c.msg j s) k ≤ ack_of (c.msg l t) k)
             (λ y. omega (arith, N.ack k kn, C.close i j s k N.index jn kn low (omega (arith, N.ack j jn))))
             (λ l t b y. C.chain l t j s k b jn kn low y) l t a x;
       }
@@ -120,7 +120,7 @@ module _ (R : ℕ → ℕ → ℕ) (i j : ℕ) where
 pub record Next (c : Course) (top : ℕ → ℕ) (R : ℕ → ℕ → ℕ) (i j : ℕ) : Type 0 where
   pub index : Index c.n i
   pub sent : Sent c top j (R i j)
-  pub known : (k : ℕ) → Index c.n k → k ≢ j → ackOf (c.msg j (R i j)) k ≤ R i k
+  pub known : (k : ℕ) → Index c.n k → k ≢ j → ack_of (c.msg j (R i j)) k ≤ R i k
 
 module _ {c : Course} {top : ℕ → ℕ} {R : ℕ → ℕ → ℕ} {i j : ℕ} (A : Next c top R i j) where
   pub numbers-accepted : Numbers c top R → Numbers c top (grown R i j)
@@ -145,15 +145,15 @@ module _ {c : Course} {top : ℕ → ℕ} {R : ℕ → ℕ → ℕ} {i j : ℕ} 
   closed-accepted H C =
       record {
         close = λ l k s x ln kn xn low h.
-            grown-all R i j (λ l k s. Index c.n l → Index c.n k → c.first k ≤ s → ackOf (c.msg k s) x ≤ grown R i j l x)
+            grown-all R i j (λ l k s. Index c.n l → Index c.n k → c.first k ≤ s → ack_of (c.msg k s) x ≤ grown R i j l x)
             (λ p q a. new x xn (eq? x j))
             (λ l k s b p q a. le_trans (C.close l k s x p q xn a b) (grown-up R i j l x))
             l k s h ln kn low;
         chain = C.chain;
       }
     where
-      new : (x : ℕ) → Index c.n x → {t : Bool} → Eq? x j t → ackOf (c.msg j (R i j)) x ≤ grown R i j i x
+      new : (x : ℕ) → Index c.n x → {t : Bool} → Eq? x j t → ack_of (c.msg j (R i j)) x ≤ grown R i j i x
       new x xn (same e) =
-          subst (λ y. ackOf (c.msg j (R i j)) y ≤ grown R i j i y) (sym e)
+          subst (λ y. ack_of (c.msg j (R i j)) y ≤ grown R i j i y) (sym e)
           (omega (arith, H.own j (R i j) A.sent, grown-up R i j i j))
       new x xn (other d) = le_trans (A.known x xn d) (grown-up R i j i x)

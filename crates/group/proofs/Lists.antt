@@ -9,13 +9,13 @@ use native.Mathlib.Nat.{le_refl, le_trans}
 use lib.Seq.{append_snoc}
 use Rattle.rules.specs.Maps.{at, upd, column, least}
 use Rattle.rules.specs.Message.{Message}
-use Rattle.rules.specs.State.{Place, State, minAL, from}
-use Rattle.rules.specs.Steps.{placed, stored, withoutOldest, insert, preacked, moved}
+use Rattle.rules.specs.State.{Place, State, min_al, from}
+use Rattle.rules.specs.Steps.{placed, stored, without_oldest, insert, preacked, moved}
 use Rattle.rules.proofs.MapsLaws.{upd-all, upd_same, upd_other, column-all}
-use Rattle.rules.proofs.StepsLaws.{from-append, from-same, from-other, from-withoutOldest, from-withoutOldest-other}
+use Rattle.rules.proofs.StepsLaws.{from-append, from-same, from-other, from-without_oldest, from-without_oldest-other}
 use Rattle.group.specs.Runs.{Index}
 use Rattle.group.proofs.All.{All, all_map, all_both, all_append, all_left, all_right}
-use Rattle.group.proofs.Senders.{all_from, from_all, all-withoutOldest, Upward, upward-snoc, upward-below}
+use Rattle.group.proofs.Senders.{all_from, from_all, all-without_oldest, Upward, upward-snoc, upward-below}
 use Rattle.group.proofs.Order.{Precedes, Ordered, Coherent, all_insert, ordered-append-insert, from-append-insert, from-append-insert-other}
 use Rattle.group.proofs.Course.{Course, Sent, said, said-suc}
 use Rattle.group.proofs.Numbers.{Spoken, Closed, said-mono}
@@ -72,8 +72,8 @@ pub record Lists (c : Course) (top pre : ℕ → ℕ) (done : List Place) (u : P
 
 pub stored-lists : {c : Course} {top pre : ℕ → ℕ} {done : List Place} (u : State) → Lists c top pre done (part u)
     → (p : Message) → Holds c top (placed u p) → u.req p.src ≡ p.seq
-    → ((k : ℕ) → Index c.n k → minAL u k ≤ minAL (stored u p) k) → Lists c top pre done (part (stored u p))
-unfolding stored placed from minAL
+    → ((k : ℕ) → Index c.n k → min_al u k ≤ min_al (stored u p) k) → Lists c top pre done (part (stored u p))
+unfolding stored placed from min_al
 stored-lists {c} {top} {pre} u L p h e up =
     record {
       lane = L.lane;
@@ -139,29 +139,29 @@ module _ {c : Course} {top pre : ℕ → ℕ} {R : ℕ → ℕ → ℕ} {done : 
       (λ k d i. subst (λ (l : List Place). Upward (c.first k) l (pre k))
       (sym (from-append-insert-other k p done u.ordered (λ e. d (sym e)))) (L.lane k i))
 
-  rest-less : (k : ℕ) → Index c.n k → Upward (more k) (from k (withoutOldest p.src u.waiting)) (u.req k)
+  rest-less : (k : ℕ) → Index c.n k → Upward (more k) (from k (without_oldest p.src u.waiting)) (u.req k)
   rest-less =
-      upd-all pre p.src (suc p.seq) (λ k v. Index c.n k → Upward v (from k (withoutOldest p.src u.waiting)) (u.req k))
-      (λ i. subst (λ (l : List Place). Upward (suc p.seq) l (u.req p.src)) (sym (from-withoutOldest p.src u.waiting ∙ ap tail oldest))
+      upd-all pre p.src (suc p.seq) (λ k v. Index c.n k → Upward v (from k (without_oldest p.src u.waiting)) (u.req k))
+      (λ i. subst (λ (l : List Place). Upward (suc p.seq) l (u.req p.src)) (sym (from-without_oldest p.src u.waiting ∙ ap tail oldest))
       (subst (λ x. Upward (suc x) ps (u.req p.src)) (sym next.0) next.1))
       (λ k d i. subst (λ (l : List Place). Upward (pre k) l (u.req k))
-      (sym (from-withoutOldest-other p.src k u.waiting (λ e. d (sym e)))) (L.rest k i))
+      (sym (from-without_oldest-other p.src k u.waiting (λ e. d (sym e)))) (L.rest k i))
 
-  abbrev newPAL : ℕ → ℕ → ℕ
-  newPAL = column u.pal p.src (at p.ack)
+  abbrev new_pal : ℕ → ℕ → ℕ
+  new_pal = column u.pal p.src (at p.ack)
 
   -- the new column is its ACK
   column-is : (k : ℕ) → at p.ack k ≡ said c p.src (suc p.seq) k
   column-is k =
       ap (λ (l : List ℕ). at l k) held.ack ∙ ap (λ (v : ℕ → ℕ). v k) (sym (said-suc c p.src p.seq held.sent.low))
 
-  pal-more : (k j : ℕ) → Index c.n k → Index c.n j → newPAL k j ≡ said c j (more j) k
+  pal-more : (k j : ℕ) → Index c.n k → Index c.n j → new_pal k j ≡ said c j (more j) k
   pal-more =
       column-all u.pal p.src (at p.ack) (λ k j v. Index c.n k → Index c.n j → v ≡ said c j (more j) k)
       (λ k kn jn. column-is k ∙ ap (λ r. said c p.src r k) (sym (upd_same pre p.src (suc p.seq))))
       (λ k j d kn jn. L.pal k j kn jn ∙ ap (λ r. said c j r k) (sym (upd_other pre p.src (suc p.seq) j d)))
 
-  pal-up : (k j : ℕ) → Index c.n k → u.pal k j ≤ newPAL k j
+  pal-up : (k j : ℕ) → Index c.n k → u.pal k j ≤ new_pal k j
   pal-up =
       column-all u.pal p.src (at p.ack) (λ k j v. Index c.n k → u.pal k j ≤ v)
       (λ k kn. omega (
@@ -175,20 +175,20 @@ module _ {c : Course} {top pre : ℕ → ℕ} {R : ℕ → ℕ → ℕ} {done : 
   not-before : (x : Place) → ((j : ℕ) → Index c.n j → at x.ack j ≤ pre j) → ¬ (Precedes p x)
   not-before x f y = omega (arith, next.0, f p.src known)
 
-  firmer : (x : Place) → Holds c top x → ((j : ℕ) → Index c.n j → x.seq < u.pal x.src j) → (j : ℕ) → Index c.n j → x.seq < newPAL x.src j
+  firmer : (x : Place) → Holds c top x → ((j : ℕ) → Index c.n j → x.seq < u.pal x.src j) → (j : ℕ) → Index c.n j → x.seq < new_pal x.src j
   firmer x h f j i = le_trans (f j i) (pal-up x.src j h.sent.index)
 
-  pub preacked-lists : p.seq < minAL u p.src → Lists c top more done (part (preacked u p))
-  unfolding preacked minAL
+  pub preacked-lists : p.seq < min_al u p.src → Lists c top more done (part (preacked u p))
+  unfolding preacked min_al
   preacked-lists early =
       record {
         lane = lane-more;
         rest = rest-less;
-        early = upd-all pre p.src (suc p.seq) (λ k v. Index c.n k → v ≤ minAL u k) (λ i. early) (λ k d i. L.early k i);
+        early = upd-all pre p.src (suc p.seq) (λ k v. Index c.n k → v ≤ min_al u k) (λ i. early) (λ k d i. L.early k i);
         holds =
             all_append (Holds c top) done (insert p u.ordered) (all_left (Holds c top) done u.ordered L.holds)
             (all_insert (Holds c top) p u.ordered held (all_right (Holds c top) done u.ordered L.holds));
-        waits = all-withoutOldest (Holds c top) p.src u.waiting L.waits;
+        waits = all-without_oldest (Holds c top) p.src u.waiting L.waits;
         pal = pal-more;
         ordered = ordered-append-insert (coherent H C) p done u.ordered held L.holds L.ordered (all_map not-before done L.over);
         over = all_map (λ x f j i. le_trans (f j i) (more-up j)) done L.over;

@@ -8,7 +8,7 @@ use Rattle.rules.specs.Message.{Message, message, encode}
 use Rattle.group.specs.Runs.{Index, Did, sent, accepted}
 use Rattle.group.specs.Causality.{Ahead, here, there, about}
 use Rattle.group.proofs.All.{All, all_map, all-mem, mem-unmap}
-use Rattle.group.proofs.Course.{Course, Sent, ackOf}
+use Rattle.group.proofs.Course.{Course, Sent, ack_of}
 use Rattle.group.proofs.Numbers.{Spoken}
 use Rattle.group.proofs.Growth.{bumped, bumped-up, bumped-same, bumped-all, sent-bumped}
 
@@ -34,8 +34,8 @@ of-bumped i o = record { sent = sent-bumped i o.sent; is = o.is }
 pub record Tells (c : Course) (i : ℕ) (m : Message) (f : List ℕ) (l : List Did) : Type 0 where
   pub src : m.src ≡ i
   pub frame : f ≡ encode (message m)
-  pub back : All (λ e. (about e).seq < ackOf m (about e).src) l
-  pub forth : (k s : ℕ) → Index c.n k → c.first k ≤ s → s < ackOf m k → Mem (c.msg k s) (map about l)
+  pub back : All (λ e. (about e).seq < ack_of m (about e).src) l
+  pub forth : (k s : ℕ) → Index c.n k → c.first k ≤ s → s < ack_of m k → Mem (c.msg k s) (map about l)
 
 abbrev pub TellsIfSent : Course → ℕ → Did → List Did → Type 0
 TellsIfSent c i (sent m f) l = Tells c i m f l
@@ -82,7 +82,7 @@ log-accepted {c} {top} {r} {l = l} G H {j} h e is t =
 
 -- what a new message tells
 pub tells-now : {c : Course} {top r : ℕ → ℕ} {i : ℕ} {l : List Did} → Log c top r i l → (m : Message) → m.src ≡ i
-    → ((k : ℕ) → Index c.n k → ackOf m k ≡ r k) → Tells c i m (encode (message m)) l
+    → ((k : ℕ) → Index c.n k → ack_of m k ≡ r k) → Tells c i m (encode (message m)) l
 tells-now {c} {top} {r} {l = l} G m src ack =
     record {
       src = src;
@@ -91,7 +91,7 @@ tells-now {c} {top} {r} {l = l} G m src ack =
       forth = λ k s kn low h. G.full k s kn low (omega (arith, ack k kn));
     }
   where
-    known : (e : Did) → Has c top r e → (about e).seq < ackOf m (about e).src
+    known : (e : Did) → Has c top r e → (about e).seq < ack_of m (about e).src
     known e h = omega (arith, h.below, ack (about e).src h.of.sent.index)
 
 -- ---- reading it
@@ -101,12 +101,12 @@ tells_at : (c : Course) (i : ℕ) (m : Message) (f : List ℕ) (e : Did) (l : Li
 tells_at c i m f e l q t = subst (λ (x : Did). TellsIfSent c i x l) (sym q) t.0
 
 pub tells-back : (c : Course) (i : ℕ) (m : Message) (f : List ℕ) (e : Did) (l : List Did) → AllTell c i l → Ahead (sent m f) e l
-    → (about e).seq < ackOf m (about e).src
-tells-back c i m f e (x ∷ l) t (here q h) = all-mem (λ d. (about d).seq < ackOf m (about d).src) e l h (tells_at c i m f x l q t).back
+    → (about e).seq < ack_of m (about e).src
+tells-back c i m f e (x ∷ l) t (here q h) = all-mem (λ d. (about d).seq < ack_of m (about d).src) e l h (tells_at c i m f x l q t).back
 tells-back c i m f e (x ∷ l) t (there a) = tells-back c i m f e l t.1 a
 
 pub tells-forth : (c : Course) (i : ℕ) (m : Message) (f : List ℕ) (l : List Did) → AllTell c i l → Mem (sent m f) l
-    → (k s : ℕ) → Index c.n k → c.first k ≤ s → s < ackOf m k → (e : Did) × (about e ≡ c.msg k s) × Ahead (sent m f) e l
+    → (k s : ℕ) → Index c.n k → c.first k ≤ s → s < ack_of m k → (e : Did) × (about e ≡ c.msg k s) × Ahead (sent m f) e l
 tells-forth c i m f (x ∷ l) t (Mem.head q) k s kn low h =
     let r = mem-unmap about (c.msg k s) l ((tells_at c i m f x l q t).forth k s kn low h) in
     (r.0, r.1, here q r.2)

@@ -8,17 +8,17 @@ use native.Mathlib.Nat.{le_trans}
 use borrow.Author.Tests.{le-leb}
 use Rattle.rules.specs.Maps.{least}
 use Rattle.rules.specs.Message.{Message, message, encode}
-use Rattle.rules.specs.State.{Place, State, minAL}
+use Rattle.rules.specs.State.{Place, State, min_al}
 use Rattle.rules.specs.Steps.{stored, keeping, accepted}
 use Rattle.rules.proofs.MapsLaws.{upd-all}
 use Rattle.group.specs.Runs.{Index, Did}
 use Rattle.group.specs.Causality.{about}
-use Rattle.group.proofs.Course.{Course, ackOf, said, said-suc}
+use Rattle.group.proofs.Course.{Course, ack_of, said, said-suc}
 use Rattle.group.proofs.Numbers.{Numbers, Spoken, Closed, said-mono}
 use Rattle.group.proofs.Growth.{bumped, bumped-same, bumped-other, grown, grown-same, Next}
 use Rattle.group.proofs.Lists.{Part, part}
 use Rattle.group.proofs.Settle.{Core, core}
-use Rattle.group.proofs.Tidy.{Tidy, Told, tidy-written, tidy-grown, minAL-up, accepted-core, accepted-req, tidy-accepted, told-accepted}
+use Rattle.group.proofs.Tidy.{Tidy, Told, tidy-written, tidy-grown, min_al-up, accepted-core, accepted-req, tidy-accepted, told-accepted}
 use Rattle.group.proofs.Logs.{TellsIfSent, Log, log-bumped, log-accepted}
 
 pub record Member (c : Course) (top : ℕ → ℕ) (R : ℕ → ℕ → ℕ) (i : ℕ) (k : Core) (u : Part) (done : List Place) (log : List Did) : Type 0 where
@@ -90,7 +90,7 @@ module _ {c : Course} {top : ℕ → ℕ} {R : ℕ → ℕ → ℕ} {i j : ℕ} 
   p = c.msg j (R i j)
 
   -- AL only grows
-  up : (k : ℕ) → Index c.n k → u.al k j ≤ ackOf p k
+  up : (k : ℕ) → Index c.n k → u.al k j ≤ ack_of p k
   up k kn =
       omega (
         arith,
@@ -106,15 +106,15 @@ module _ {c : Course} {top : ℕ → ℕ} {R : ℕ → ℕ → ℕ} {i j : ℕ} 
   pub member-req : (accepted u p).req ≡ grown R i j i
   member-req = accepted-req I H C A took u same M.tidy up
 
-  stored-kept : (s : ℕ) → minAL (stored u p) i ≤ s → s < top i → (stored u p).kept s ≡ encode (message (c.msg i s))
-  unfolding stored minAL
+  stored-kept : (s : ℕ) → min_al (stored u p) i ≤ s → s < top i → (stored u p).kept s ≡ encode (message (c.msg i s))
+  unfolding stored min_al
   stored-kept s low high =
       rw (le-leb _ s (subst (λ x. least u.n ((stored u p).al x) ≤ s) (sym M.me) low))
-      (M.kept s (le_trans (minAL-up I H C A took u same M.tidy up i A.index) low) high)
+      (M.kept s (le_trans (min_al-up I H C A took u same M.tidy up i A.index) low) high)
 
   pub member-accepted : (e : Did) → about e ≡ p → TellsIfSent c i e log
       → Member c top (grown R i j) i (core (accepted u p)) (part (accepted u p)) (took ++ (accepted u p).confirmed) (e ∷ log)
-  unfolding stored minAL
+  unfolding stored min_al
   member-accepted e is t =
       record {
         me = ap (λ (k : Core). k.me) unchanged ∙ M.me;

@@ -9,17 +9,17 @@ use lib.Dec.{eqb}
 use lib.ListN.{length, get_or}
 use Rattle.rules.specs.Maps.{every, least}
 use Rattle.rules.specs.Message.{Message}
-use Rattle.rules.specs.State.{Place, State, minAL, minPAL}
+use Rattle.rules.specs.State.{Place, State, min_al, min_pal}
 use Rattle.rules.specs.Steps.{known, window, insert}
 use Rattle.rules.specs.Calls.{opening}
 use Rattle.group.specs.Runs.{Index, Did, sent, accepted, Group, fresh, Run}
 use Rattle.group.specs.Causality.{Ahead, about, Cause, direct, chain}
-use Rattle.group.specs.Demand.{inMessage, inPlace, confirmedAt, InCausalOrder, PreackedByAll, FewWait, SenderKeeps}
-use Rattle.group.proofs.All.{ahead-getD}
+use Rattle.group.specs.Demand.{in_message, in_place, confirmed_at, InCausalOrder, PreackedByAll, FewWait, SenderKeeps}
+use Rattle.group.proofs.All.{ahead-get_or}
 use Rattle.group.proofs.Course.{nothing}
 use Rattle.group.proofs.Scripts.{Line, ◌says◌, ◌hears◌, play, fits, script-run, computing}
 use Rattle.group.proofs.Pieces as Pieces
-use Rattle.group.proofs.Pieces.{Pieces, pieces, lowest, stored, preacked, preackWhile, preackTo, confirmWhile, send, arriveData, call}
+use Rattle.group.proofs.Pieces.{Pieces, pieces, lowest, stored, preacked, preack_while, preack_to, confirm_while, send, arrive_data, call}
 
 -- a group of n with window w, CID 7 and first numbers 1, of units with these pieces, comes to a state in which the clause is false
 pub record Breaks (k : Pieces) (n w : ℕ) (Clause : Group → Type 0) : Type 0 where
@@ -37,7 +37,7 @@ module _ (k : Pieces) (n w : ℕ) (script : List Line) where
 
 -- where a proof unfolds this, runs with open pieces compute too
 unfoldable all-computing : Unit {0}
-unfolding computing stored preacked preackWhile preackTo confirmWhile Pieces.accepted send arriveData
+unfolding computing stored preacked preack_while preack_to confirm_while Pieces.accepted send arrive_data
 all-computing = tt
 
 -- ---- the window W + 1
@@ -45,7 +45,7 @@ all-computing = tt
 abbrev pub wide : State → ℕ
 wide s = min (s.w + 1) (least s.n s.buf / s.n)
 
-pub wide-window : Breaks (pieces known wide lowest insert minAL minPAL) 2 2 (λ g. FewWait 2 g 2)
+pub wide-window : Breaks (pieces known wide lowest insert min_al min_pal) 2 2 (λ g. FewWait 2 g 2)
 unfolding all-computing
 wide-window =
     breaks _ 2 2 (1 says [] ∷ 1 says [] ∷ 1 says [] ∷ []) _ refl refl
@@ -60,7 +60,7 @@ greatest (suc m) f = max (greatest m f) (f (suc m))
 abbrev pub highest : State → ℕ
 highest s = greatest s.n (s.al s.me)
 
-pub dropped-frames : Breaks (pieces known window highest insert minAL minPAL) 2 2 (SenderKeeps 2)
+pub dropped-frames : Breaks (pieces known window highest insert min_al min_pal) 2 2 (SenderKeeps 2)
 unfolding all-computing
 dropped-frames =
     breaks _ 2 2 (1 says [] ∷ 1 says [] ∷ []) _ refl refl
@@ -68,7 +68,7 @@ dropped-frames =
 
 -- ---- confirmed by AL
 
-pub confirmed-by-al : Breaks (pieces known window lowest insert minAL minAL) 2 2 (PreackedByAll 2)
+pub confirmed-by-al : Breaks (pieces known window lowest insert min_al min_al) 2 2 (PreackedByAll 2)
 unfolding all-computing
 confirmed-by-al =
     breaks _ 2 2 (1 says [] ∷ 2 hears 1 ∷ 2 says [] ∷ 1 hears 2 ∷ 1 says [] ∷ []) _ refl refl
@@ -88,7 +88,7 @@ confirmed-at-once =
 
 -- the x-th confirmed message of unit i, and the x-th entry of its log, from 0
 abbrev place : Group → ℕ → ℕ → Place
-place g i x = get_or (confirmedAt g i) x (record { slot = 0; src = 0; seq = 0; ack = []; text = [] })
+place g i x = get_or (confirmed_at g i) x (record { slot = 0; src = 0; seq = 0; ack = []; text = [] })
 
 abbrev entry : Group → ℕ → ℕ → Did
 entry g i x = get_or (g.log i) x (accepted nothing)
@@ -117,28 +117,28 @@ module _ (n : ℕ) (g : Group) where
       let r = sent-as (entry g k x) s in
       direct p q r.0 (entry g k y) k kn ep
       (subst (λ (e : Did). Ahead e (entry g k y) (g.log k)) (r.1 ∙ ap (λ (m : Message). sent m r.0) eq)
-      (ahead-getD (accepted nothing) (g.log k) x y h.0 h.1))
+      (ahead-get_or (accepted nothing) (g.log k) x y h.0 h.1))
 
   -- at unit i q stands before p
-  disordered : (i : ℕ) → Index n i → (x y : ℕ) → InOrder x y (length (confirmedAt g i)) → (p q : Message)
-      → inPlace (place g i x) ≡ inMessage q → inPlace (place g i y) ≡ inMessage p → Cause n g p q → ¬ (InCausalOrder n g)
-  disordered i inn x y h p q eq ep c order = order i inn (place g i x) (place g i y) (ahead-getD _ (confirmedAt g i) x y h.0 h.1) q p eq ep c
+  disordered : (i : ℕ) → Index n i → (x y : ℕ) → InOrder x y (length (confirmed_at g i)) → (p q : Message)
+      → in_place (place g i x) ≡ in_message q → in_place (place g i y) ≡ in_message p → Cause n g p q → ¬ (InCausalOrder n g)
+  disordered i inn x y h p q eq ep c order = order i inn (place g i x) (place g i y) (ahead-get_or _ (confirmed_at g i) x y h.0 h.1) q p eq ep c
 
 -- inserted at the end: unit 1's first message is confirmed before unit 2's, which it had accepted before it sent
 
 abbrev pub append : Place → List Place → List Place
 append p l = l ++ (p ∷ [])
 
-endScript : List Line
-endScript = 2 says [] ∷ 1 hears 1 ∷ 1 says [] ∷ 1 says [] ∷ 2 hears 2 ∷ 2 hears 3 ∷ 2 says [] ∷ 2 says [] ∷ 1 hears 4 ∷ 1 hears 5 ∷ 1 says [] ∷ []
+end_script : List Line
+end_script = 2 says [] ∷ 1 hears 1 ∷ 1 says [] ∷ 1 says [] ∷ 2 hears 2 ∷ 2 hears 3 ∷ 2 says [] ∷ 2 says [] ∷ 1 hears 4 ∷ 1 hears 5 ∷ 1 says [] ∷ []
 
 end : Group
-end = last (pieces known window lowest append minAL minPAL) 2 2 endScript
+end = last (pieces known window lowest append min_al min_pal) 2 2 end_script
 
-pub inserted-at-the-end : Breaks (pieces known window lowest append minAL minPAL) 2 2 (InCausalOrder 2)
-unfolding all-computing endScript end
+pub inserted-at-the-end : Breaks (pieces known window lowest append min_al min_pal) 2 2 (InCausalOrder 2)
+unfolding all-computing end_script end
 inserted-at-the-end =
-    breaks (pieces known window lowest append minAL minPAL) 2 2 endScript (InCausalOrder 2) refl refl
+    breaks (pieces known window lowest append min_al min_pal) 2 2 end_script (InCausalOrder 2) refl refl
     (disordered 2 end 1 (omega arith) 0 1 (omega arith) p q refl refl (caused 2 end p q 1 (omega arith) 4 5 (omega arith) tt refl refl))
   where
     p : Message
@@ -153,19 +153,19 @@ inserted-at-the-end =
 abbrev pub always : State → Message → Bool
 always s p = true
 
-chainScript : List Line
-chainScript =
+chain_script : List Line
+chain_script =
     2 says [] ∷ 3 hears 1 ∷ 3 says [] ∷ 1 hears 2 ∷ 1 says [] ∷ 1 hears 1 ∷ 2 hears 3 ∷ 2 hears 2 ∷ 3 hears 3 ∷ 3 says [] ∷ 2 hears 4 ∷ 1 hears 4
     ∷ 1 says [] ∷ 2 says [] ∷ 3 hears 5 ∷ 1 hears 6 ∷ 3 hears 6 ∷ 1 says [] ∷ 2 hears 5 ∷ 3 says [] ∷ 1 hears 8 ∷ 2 says [] ∷ 1 hears 9
     ∷ []
 
 gone : Group
-gone = last (pieces always window lowest insert minAL minPAL) 3 3 chainScript
+gone = last (pieces always window lowest insert min_al min_pal) 3 3 chain_script
 
-pub accepted-by-number : Breaks (pieces always window lowest insert minAL minPAL) 3 3 (InCausalOrder 3)
-unfolding all-computing chainScript gone
+pub accepted-by-number : Breaks (pieces always window lowest insert min_al min_pal) 3 3 (InCausalOrder 3)
+unfolding all-computing chain_script gone
 accepted-by-number =
-    breaks (pieces always window lowest insert minAL minPAL) 3 3 chainScript (InCausalOrder 3) refl refl
+    breaks (pieces always window lowest insert min_al min_pal) 3 3 chain_script (InCausalOrder 3) refl refl
     (disordered 3 gone 1 (omega arith) 1 2 (omega arith) p q refl refl
     (chain p r q (caused 3 gone p r 3 (omega arith) 5 6 (omega arith) tt refl refl) (caused 3 gone r q 1 (omega arith) 7 8 (omega arith) tt refl refl)))
   where

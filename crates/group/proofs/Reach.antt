@@ -8,16 +8,16 @@ use native.Mathlib.Omega.{arith}
 use native.Mathlib.Nat.{le_trans}
 use lib.ListN.{length}
 use Rattle.rules.specs.Message.{Message, message, encode}
-use Rattle.rules.specs.State.{Place, State, minAL, from}
-use Rattle.rules.specs.Steps.{isKept}
+use Rattle.rules.specs.State.{Place, State, min_al, from}
+use Rattle.rules.specs.Steps.{is_kept}
 use Rattle.rules.proofs.MapsLaws.{Lt?, lt, ge, lt?}
-use Rattle.rules.proofs.RequestLaws.{facts-isKept}
+use Rattle.rules.proofs.RequestLaws.{facts-is_kept}
 use Rattle.group.specs.Runs.{Index, Did, sent}
 use Rattle.group.specs.Causality.{about}
-use Rattle.group.specs.Demand.{inMessage, inPlace}
+use Rattle.group.specs.Demand.{in_message, in_place}
 use Rattle.group.proofs.All.{all_left, all-mem, mem-map}
 use Rattle.group.proofs.Senders.{all_from, all-src, mem-from, upward-length, upward-find}
-use Rattle.group.proofs.Course.{Course, Sent, ackOf, said-cases}
+use Rattle.group.proofs.Course.{Course, Sent, ack_of, said-cases}
 use Rattle.group.proofs.Numbers.{Numbers, Spoken, Closed, row-high, said_all, said-mono}
 use Rattle.group.proofs.Columns.{row-le, row-glb}
 use Rattle.group.proofs.Lists.{Holds, Part, part}
@@ -55,9 +55,9 @@ module _ {c : Course} {top : ℕ → ℕ} {R : ℕ → ℕ → ℕ} {done made :
       ))
       (subst (λ y. p.seq < y) (T.settled.lists.pal p.src x holds.sent.index xn) (firm x xn))
 
-  pub preacked-too : Mem (inPlace p) (map inPlace (made ++ v.ordered))
+  pub preacked-too : Mem (in_place p) (map in_place (made ++ v.ordered))
   preacked-too =
-      Memᴰ.cast same (mem-map inPlace found.0 (made ++ v.ordered) (mem-from found.0 p.src (made ++ v.ordered) found.2))
+      Memᴰ.cast same (mem-map in_place found.0 (made ++ v.ordered) (mem-from found.0 p.src (made ++ v.ordered) found.2))
     where
       lane : List Place
       lane = from p.src (made ++ v.ordered)
@@ -78,8 +78,8 @@ module _ {c : Course} {top : ℕ → ℕ} {R : ℕ → ℕ → ℕ} {done made :
       there : Holds c top found.0
       there = all-mem (Holds c top) found.0 lane found.2 (all_from (Holds c top) p.src (made ++ v.ordered) Y.settled.lists.holds)
 
-      same : inPlace p ≡ inPlace found.0
-      same = holds-content H p holds ∙ ap inMessage (sym (ap₂ c.msg src found.1)) ∙ sym (holds-content H found.0 there)
+      same : in_place p ≡ in_place found.0
+      same = holds-content H p holds ∙ ap in_message (sym (ap₂ c.msg src found.1)) ∙ sym (holds-content H found.0 there)
 
 -- ---- at most w of one sender's messages wait
 
@@ -89,7 +89,7 @@ module _ {c : Course} {top : ℕ → ℕ} {R : ℕ → ℕ → ℕ} {done : List
   -- when the last accepted message of k was sent, k knew no more of x than u does
   near : c.first k < u.req k → (x : ℕ) → Index c.n x → u.req k - c.w ≤ u.al k x
   near h x xn =
-      omega (arith, N.near k s x sent xn, (W.told x xn).says k kn, said-mono x xn H (ackOf (c.msg k s) x) (u.req x) (row-high I inn row x xn) known k kn)
+      omega (arith, N.near k s x sent xn, (W.told x xn).says k kn, said-mono x xn H (ack_of (c.msg k s) x) (u.req x) (row-high I inn row x xn) known k kn)
     where
       s : ℕ
       s = u.req k - 1
@@ -97,9 +97,9 @@ module _ {c : Course} {top : ℕ → ℕ} {R : ℕ → ℕ → ℕ} {done : List
       sent : Sent c top k s
       sent = record { index = kn; low = omega arith; high = omega (arith, row-high I inn row k kn) }
 
-      known : ackOf (c.msg k s) x ≤ u.req x
+      known : ack_of (c.msg k s) x ≤ u.req x
       known =
-          subst (λ (f : ℕ → ℕ). s < f k → ackOf (c.msg k s) x ≤ f x) (sym row) (C.close i k s x inn kn xn (omega arith)) (omega arith)
+          subst (λ (f : ℕ → ℕ). s < f k → ack_of (c.msg k s) x ≤ f x) (sym row) (C.close i k s x inn kn xn (omega arith)) (omega arith)
 
   pub few : length (from k u.waiting) ≤ c.w
   few = go (lt? (c.first k) (u.req k))
@@ -115,10 +115,10 @@ module _ {c : Course} {top : ℕ → ℕ} {R : ℕ → ℕ → ℕ} {done : List
 
 module _ {c : Course} {top : ℕ → ℕ} {R : ℕ → ℕ → ℕ} {done : List Place} {log mine : List Did} (i j : ℕ) (inn : Index c.n i) (jn : Index c.n j)
     (L : Log c top (R i) i log) (u : State) (M : Member c top R j (core u) (part u) done mine) where
-  pub keeps : (m : Message) (f : List ℕ) → Mem (sent m f) mine → ¬ (Mem m (map about log)) → (isKept u m.seq ≡ true) × (u.kept m.seq ≡ f)
-  unfolding minAL
+  pub keeps : (m : Message) (f : List ℕ) → Mem (sent m f) mine → ¬ (Mem m (map about log)) → (is_kept u m.seq ≡ true) × (u.kept m.seq ≡ f)
+  unfolding min_al
   keeps m f h lacks = (
-    facts-isKept u m.seq (subst (λ x. minAL u x ≤ m.seq) (sym M.me) low) (subst (λ x. m.seq < x) (sym M.seq) high),
+    facts-is_kept u m.seq (subst (λ x. min_al u x ≤ m.seq) (sym M.me) low) (subst (λ x. m.seq < x) (sym M.seq) high),
     M.kept m.seq low high ∙ ap (λ (x : Message). encode (message x)) (sym is) ∙ sym by.1,
   )
     where
@@ -138,5 +138,5 @@ module _ {c : Course} {top : ℕ → ℕ} {R : ℕ → ℕ → ℕ} {done : List
       lacking (lt x) = absurd (lacks (Memᴰ.cast is (L.full j m.seq jn (subst (λ k. c.first k ≤ m.seq) by.0 of.sent.low) x)))
       lacking (ge x) = x
 
-      low : minAL u j ≤ m.seq
+      low : min_al u j ≤ m.seq
       low = le_trans (row-le M.tidy.size (u.al j) i inn) (le_trans ((M.tidy.columns i inn).within j jn) (lacking (lt? m.seq (R i j))))

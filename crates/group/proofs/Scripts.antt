@@ -8,17 +8,17 @@ use lib.Dec.{eqb, ltb}
 use lib.ListN.{length, get_or, replicate}
 use borrow.Author.Tests.{ltb-true, eqb-true}
 use Rattle.rules.specs.Maps.{between, all, every, upd, column, units}
-use Rattle.rules.specs.Fields.{table, row_of, tagsOf, fieldFits}
-use Rattle.rules.specs.Message.{encode, decode, inLimits, readAs}
+use Rattle.rules.specs.Fields.{table, row_of, tags_of, field_fits}
+use Rattle.rules.specs.Message.{encode, decode, in_limits, read_as}
 use Rattle.rules.specs.Lawful.{nil, cons, Bytes}
-use Rattle.rules.specs.State.{State, minAL, minPAL, from, free, opened}
-use Rattle.rules.specs.Steps.{window, maySend, outgoing, known, freeSlot, placed, stored, noted, asking, isKept, resentFrom, precedes, preacked, preackOf, moved, confirm, accepted, sent, withoutTaken}
-use Rattle.rules.specs.Sound.{rangesFit, nextsFit, windowFits, placeFits, keptFit, sound}
+use Rattle.rules.specs.State.{State, min_al, min_pal, from, free, opened}
+use Rattle.rules.specs.Steps.{window, may_send, outgoing, known, free_slot, placed, stored, noted, asking, is_kept, resent_from, precedes, preacked, preack_of, moved, confirm, accepted, sent, without_taken}
+use Rattle.rules.specs.Sound.{ranges_fit, nexts_fit, window_fits, place_fits, kept_fit, sound}
 use Rattle.rules.specs.Calls as Calls
-use Rattle.rules.specs.Calls.{Result, Call, full, foreign, openChecks, opening, sendChecks, send, dataChecks, arriveData, requestChecks, arriveRequest, arrive, makeChecks, makeRequest, copyChecks, copy, oldest, takeChecks, take}
+use Rattle.rules.specs.Calls.{Result, Call, full, foreign, open_checks, opening, send_checks, send, data_checks, arrive_data, request_checks, arrive_request, arrive, make_checks, make_request, copy_checks, copy, oldest, take_checks, take}
 use Rattle.rules.proofs.MapsLaws.{and_both, between-low, between-high, every-at}
 use Rattle.group.specs.Runs.{Group, updated, Proper, fresh, after, Run, opens, then}
-use Rattle.group.proofs.All.{mem-getD}
+use Rattle.group.proofs.All.{mem-get_or}
 
 infix 70 ◌says◌ ◌hears◌ ◌asks◌ ◌copies◌
 -- unit i sends these data, hears frame f, asks for what it misses of k, copies out its kept frame of number x, takes
@@ -60,7 +60,7 @@ all-bytes (b ∷ d) h = let r = and_both _ _ h in cons (ltb-true b 256 r.0) (all
 
 proper : (g : Group) (l : Line) → possible g l ≡ true → Proper g (call_of g l)
 proper g (i says d) h = all-bytes d h
-proper g (i hears f) h = mem-getD g.air (f - 1) [] (ltb-true _ _ h)
+proper g (i hears f) h = mem-get_or g.air (f - 1) [] (ltb-true _ _ h)
 proper g (i asks k) h = tt
 proper g (i copies x) h = tt
 proper g (takes i) h = tt
@@ -101,8 +101,8 @@ module _ (act : State → Call → Result) where
 -- where a proof unfolds this, whole runs compute
 unfoldable pub computing : Unit {0}
 unfolding play answers fits updated fresh after
-    between upd column units table row_of tagsOf fieldFits encode decode inLimits readAs minAL minPAL from free opened
-    window maySend outgoing known freeSlot placed stored noted asking isKept resentFrom precedes preacked preackOf moved confirm accepted sent withoutTaken
-    rangesFit nextsFit windowFits placeFits keptFit sound
-    full foreign openChecks opening sendChecks send dataChecks arriveData requestChecks arriveRequest arrive makeChecks makeRequest copyChecks copy oldest takeChecks take
+    between upd column units table row_of tags_of field_fits encode decode in_limits read_as min_al min_pal from free opened
+    window may_send outgoing known free_slot placed stored noted asking is_kept resent_from precedes preacked preack_of moved confirm accepted sent without_taken
+    ranges_fit nexts_fit window_fits place_fits kept_fit sound
+    full foreign open_checks opening send_checks send data_checks arrive_data request_checks arrive_request arrive make_checks make_request copy_checks copy oldest take_checks take
 computing = tt

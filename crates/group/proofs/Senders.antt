@@ -7,7 +7,7 @@ use native.Mathlib.Omega.{arith}
 use lib.Dec.{eqb}
 use lib.ListN.{length}
 use Rattle.rules.specs.State.{Place, from}
-use Rattle.rules.specs.Steps.{withoutOldest}
+use Rattle.rules.specs.Steps.{without_oldest}
 use Rattle.rules.proofs.MapsLaws.{Eq?, same, other, eq?}
 use Rattle.group.specs.Causality.{Ahead, here, there}
 use Rattle.group.proofs.All.{All, all_map, all-mem}
@@ -34,11 +34,11 @@ module _ (P : Place → Type 0) (k : ℕ) where
       go (same e) h i = (λ q. h.0, i h.1)
       go (other d) h i = (λ q. absurd (d q), i h)
 
-  pub all-withoutOldest : (l : List Place) → All P l → All P (withoutOldest k l)
-  all-withoutOldest [] h = tt
-  all-withoutOldest (p ∷ l) h = go (eqb p.src k) (all-withoutOldest l h.1)
+  pub all-without_oldest : (l : List Place) → All P l → All P (without_oldest k l)
+  all-without_oldest [] h = tt
+  all-without_oldest (p ∷ l) h = go (eqb p.src k) (all-without_oldest l h.1)
     where
-      go : (t : Bool) → All P (withoutOldest k l) → All P (cond t l (p ∷ withoutOldest k l))
+      go : (t : Bool) → All P (without_oldest k l) → All P (cond t l (p ∷ without_oldest k l))
       go true i = h.1
       go false i = (h.0, i)
 

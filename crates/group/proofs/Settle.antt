@@ -6,9 +6,9 @@ use native.Mathlib.Omega.{arith}
 use native.Mathlib.Nat.{le_trans}
 use Rattle.rules.specs.Maps.{at, upd, least}
 use Rattle.rules.specs.Message.{Message}
-use Rattle.rules.specs.State.{Place, State, minAL, minPAL, from}
-use Rattle.rules.specs.Steps.{placed, stored, preacked, preackTo, moved, accepted}
-use Rattle.rules.proofs.StepsLaws.{Stopped, Due, preackTo-all, Ready, confirm-all}
+use Rattle.rules.specs.State.{Place, State, min_al, min_pal, from}
+use Rattle.rules.specs.Steps.{placed, stored, preacked, preack_to, moved, accepted}
+use Rattle.rules.proofs.StepsLaws.{Stopped, Due, preack_to-all, Ready, confirm-all}
 use Rattle.group.specs.Runs.{Index}
 use Rattle.group.proofs.All.{All, all_right}
 use Rattle.group.proofs.Senders.{Upward, upward-length}
@@ -39,7 +39,7 @@ pub record Knows (c : Course) (top : ℕ → ℕ) (u : Core) : Type 0 where
   pub low : (j : ℕ) → Index c.n j → least u.n (u.al j) ≤ u.req j
   pub reaches : (j k : ℕ) → Index c.n j → Index c.n k → said c j (u.req j) k ≤ u.al k j
 
--- nothing is due: all below minAL is pre-acknowledged
+-- nothing is due: all below min_al is pre-acknowledged
 pub record Settled (c : Course) (top : ℕ → ℕ) (done : List Place) (u : Part) : Type 0 where
   pub pre : ℕ → ℕ
   pub lists : Lists c top pre done u
@@ -68,7 +68,7 @@ module _ {c : Course} {top : ℕ → ℕ} {R : ℕ → ℕ → ℕ} (H : Spoken 
         pre = upd W.pre p.src (suc p.seq);
         lists =
             preacked-lists H C u W.lists p ps (subst (λ k. from k u.waiting ≡ p ∷ ps) (sym due.src) due.oldest)
-            (subst (λ k. p.seq < minAL u k) (sym due.src) due.early);
+            (subst (λ k. p.seq < min_al u k) (sym due.src) due.early);
       }
 
   -- ---- confirming
@@ -77,9 +77,9 @@ module _ {c : Course} {top : ℕ → ℕ} {R : ℕ → ℕ → ℕ} (H : Spoken 
     pub knows : Knows c top (core u)
     pub settled : Settled c top (old ++ u.confirmed) (part u)
 
-  -- where no message of j is due, all of j's below minAL went over
+  -- where no message of j is due, all of j's below min_al went over
   all-over : (u : State) → Preacking u → ((j : ℕ) → Index c.n j → Stopped j u) → Confirming u
-  unfolding minAL
+  unfolding min_al
   all-over u W stopped =
       record {
         knows = W.knows;
@@ -91,7 +91,7 @@ module _ {c : Course} {top : ℕ → ℕ} {R : ℕ → ℕ → ℕ} (H : Spoken 
       }
     where
       over : (j : ℕ) → Index c.n j → (l : List Place) → Upward (W.pre j) l (u.req j)
-          → ((p : Place) (ps : List Place) → l ≡ p ∷ ps → minAL u j ≤ p.seq) → minAL u j ≤ W.pre j
+          → ((p : Place) (ps : List Place) → l ≡ p ∷ ps → min_al u j ≤ p.seq) → min_al u j ≤ W.pre j
       over j jn [] h f = omega (arith, W.knows.low j jn)
       over j jn (p ∷ ps) h f = omega (arith, h.0, f p ps refl)
 
@@ -113,7 +113,7 @@ module _ {c : Course} {top : ℕ → ℕ} {R : ℕ → ℕ → ℕ} (H : Spoken 
           )
 
   confirming : (u : State) (p : Place) (ps : List Place) → Confirming u → Ready u p ps → Confirming (moved u p)
-  unfolding moved minPAL
+  unfolding moved min_pal
   confirming u p ps W ready =
       record {
         knows = W.knows;
@@ -137,14 +137,14 @@ module _ {c : Course} {top : ℕ → ℕ} {R : ℕ → ℕ → ℕ} (H : Spoken 
   -- ---- p is accepted
 
   pub accepted-settled : (u : State) (p : Message) → Settled c top (old ++ u.confirmed) (part u) → Holds c top (placed u p)
-      → u.req p.src ≡ p.seq → ((k : ℕ) → Index c.n k → minAL u k ≤ minAL (stored u p) k) → Knows c top (core (stored u p))
+      → u.req p.src ≡ p.seq → ((k : ℕ) → Index c.n k → min_al u k ≤ min_al (stored u p) k) → Knows c top (core (stored u p))
       → Settled c top (old ++ (accepted u p).confirmed) (part (accepted u p))
   unfolding accepted stored
   accepted-settled u p S h e up K =
       (confirm-all Confirming confirming t (all-over t out.0 (λ j jn. out.1 j jn.0 (omega (arith, K.size))))).settled
     where
       t : State
-      t = preackTo u.n (stored u p)
+      t = preack_to u.n (stored u p)
 
       out : Preacking t × ((j : ℕ) → 1 ≤ j → j ≤ u.n → Stopped j t)
-      out = preackTo-all Preacking preacking u.n (stored u p) (record { knows = K; pre = S.pre; lists = stored-lists u S.lists p h e up })
+      out = preack_to-all Preacking preacking u.n (stored u p) (record { knows = K; pre = S.pre; lists = stored-lists u S.lists p h e up })

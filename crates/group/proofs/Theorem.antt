@@ -5,8 +5,8 @@ use mathlib.Core.Path.{refl}
 use lib.ListN.{get_or}
 use Rattle.rules.specs.Calls.{call}
 use Rattle.group.specs.Runs.{Index, Group, after, Run, opens, then}
-use Rattle.group.specs.Causality.{sentIn}
-use Rattle.group.specs.Demand.{confirmedAt, Demand3, PrecedenceIsCausality, Promise}
+use Rattle.group.specs.Causality.{sent_in}
+use Rattle.group.specs.Demand.{confirmed_at, Demand3, PrecedenceIsCausality, Promise}
 use Rattle.group.proofs.Course.{Course, nothing}
 use Rattle.group.proofs.Lists.{part, Lists}
 use Rattle.group.proofs.Good.{top_of, reqs, Fair, Seat, Good}
@@ -26,7 +26,7 @@ run-good c one g (then {g = b} r i inn cl p) agrees = call-good (run-good c one 
 module _ (n w cid : ℕ) (first : ℕ → ℕ) (g : Group) (run : Run call n w cid first g) where
   -- the course of a run that ends in g
   abbrev c : Course
-  c = record { n = n; w = w; cid = cid; first = first; msg = λ j s. get_or (sentIn (g.log j)) (s - first j) nothing }
+  c = record { n = n; w = w; cid = cid; first = first; msg = λ j s. get_or (sent_in (g.log j)) (s - first j) nothing }
 
   -- where there is a unit
   good : (i : ℕ) → Index n i → Good c g
@@ -38,24 +38,24 @@ module _ (n w cid : ℕ) (first : ℕ → ℕ) (g : Group) (run : Run call n w c
   seat : (i : ℕ) → Index n i → Seat c (top_of c g) (reqs g) i (g.unit i) (g.log i) (g.took i)
   seat i inn = (good i inn).members i inn
 
-  lists : (i : ℕ) (inn : Index n i) → Lists c (top_of c g) (seat i inn).tidy.settled.pre (confirmedAt g i) (part (g.unit i))
+  lists : (i : ℕ) (inn : Index n i) → Lists c (top_of c g) (seat i inn).tidy.settled.pre (confirmed_at g i) (part (g.unit i))
   lists i inn = (seat i inn).tidy.settled.lists
 
   demand-3 : Demand3 n w g
   demand-3 =
       record {
-        first-so-many = λ i k inn kn. done-firsts (lists i inn) (fair i inn).spoken k kn (g.log k) (λ s low high. refl) refl;
-        of-units = λ i inn. done-units (lists i inn);
-        each-once = λ i inn. done-once (lists i inn);
-        in-causal-order = λ i inn.
-            ordered-causes (fair i inn).spoken (fair i inn).closed g (λ l ln. (seat l ln).logs) (confirmedAt g i) (g.unit i).ordered
+        first_so_many = λ i k inn kn. done-firsts (lists i inn) (fair i inn).spoken k kn (g.log k) (λ s low high. refl) refl;
+        of_units = λ i inn. done-units (lists i inn);
+        each_once = λ i inn. done-once (lists i inn);
+        in_causal_order = λ i inn.
+            ordered-causes (fair i inn).spoken (fair i inn).closed g (λ l ln. (seat l ln).logs) (confirmed_at g i) (g.unit i).ordered
             (lists i inn).ordered;
-        preacked-by-all = λ i j inn jn.
+        preacked_by_all = λ i j inn jn.
             preacked-too (fair i inn).spoken (fair i inn).numbers (seat i inn).tidy (seat j jn).tidy j jn refl;
-        few-wait = λ i k inn kn.
+        few_wait = λ i k inn kn.
             few (fair i inn).spoken (fair i inn).numbers (fair i inn).closed (fair i inn).window (seat i inn).tidy.size (seat i inn).told
             (seat i inn).tidy.settled i inn refl k kn;
-        sender-keeps = λ i j inn jn. keeps i j inn jn (seat i inn).logs (g.unit j) (seat j jn);
+        sender_keeps = λ i j inn jn. keeps i j inn jn (seat i inn).logs (g.unit j) (seat j jn);
       }
 
   precedence-is-causality : PrecedenceIsCausality n g

@@ -7,13 +7,13 @@ use Prim.Native.Nat.{ℕ, suc, ◌≤◌}
 use native.Mathlib.Nat.{le_refl, le_trans}
 use Rattle.rules.specs.Maps.{at, upd, column}
 use Rattle.rules.specs.Message.{Message}
-use Rattle.rules.specs.State.{Place, State, minAL}
+use Rattle.rules.specs.State.{Place, State, min_al}
 use Rattle.rules.specs.Steps.{placed, stored, accepted}
 use Rattle.rules.proofs.MapsLaws.{Eq?, same, other, eq?, column-all}
 use Rattle.rules.proofs.KeptLaws.{settled-rest}
 use Rattle.group.specs.Runs.{Index}
 use Rattle.group.proofs.All.{all_map}
-use Rattle.group.proofs.Course.{Course, Sent, ackOf}
+use Rattle.group.proofs.Course.{Course, Sent, ack_of}
 use Rattle.group.proofs.Numbers.{Numbers, Spoken, Closed, row-high}
 use Rattle.group.proofs.Growth.{bumped, sent-bumped, grown, grown-up, grown-same, Next, numbers-accepted, closed-accepted}
 use Rattle.group.proofs.Columns.{Column, Says, column-message, says-message, column-more, row-le, row-glb}
@@ -74,7 +74,7 @@ stored-all u p P h o x = go (eq? x p.src)
 
 module _ {c : Course} {top : ℕ → ℕ} {R : ℕ → ℕ → ℕ} {i j : ℕ} (I : Numbers c top R) (H : Spoken c top) (C : Closed c top R) (A : Next c top R i j)
     (old : List Place) (u : State) (same : u.req ≡ R i) (T : Tidy c top R (old ++ u.confirmed) (part u))
-    (up : (k : ℕ) → Index c.n k → u.al k j ≤ ackOf (c.msg j (R i j)) k) where
+    (up : (k : ℕ) → Index c.n k → u.al k j ≤ ack_of (c.msg j (R i j)) k) where
   -- the message
   abbrev p : Message
   p = c.msg j (R i j)
@@ -117,10 +117,10 @@ module _ {c : Course} {top : ℕ → ℕ} {R : ℕ → ℕ → ℕ} {i j : ℕ} 
         reaches = λ x k xn kn. (stored-columns x xn).reaches k kn;
       }
 
-  pub minAL-up : (k : ℕ) → Index c.n k → minAL u k ≤ minAL (stored u p) k
-  unfolding stored minAL
-  minAL-up k kn =
-      row-glb T.size ((stored u p).al k) (minAL u k) (le_trans kn.0 kn.1)
+  pub min_al-up : (k : ℕ) → Index c.n k → min_al u k ≤ min_al (stored u p) k
+  unfolding stored min_al
+  min_al-up k kn =
+      row-glb T.size ((stored u p).al k) (min_al u k) (le_trans kn.0 kn.1)
       (λ x xn. le_trans (row-le T.size (u.al k) x xn)
       (column-all u.al p.src (at p.ack) (λ k x v. Index c.n k → u.al k x ≤ v)
       (λ k kn. subst (λ x. u.al k x ≤ at p.ack k) (sym src) (up k kn)) (λ k x d kn. le_refl _) k x kn))
@@ -141,7 +141,7 @@ module _ {c : Course} {top : ℕ → ℕ} {R : ℕ → ℕ → ℕ} {i j : ℕ} 
             subst (λ (k : Core). (x : ℕ) → Index c.n x → Column c (grown R i j) x (k.req x) (λ y. k.al y x)) (sym accepted-core)
             stored-columns;
         settled =
-            accepted-settled H C old u p T.settled holds (ap (λ (f : ℕ → ℕ). f p.src) same ∙ ap (R i) src ∙ sym seq) minAL-up
+            accepted-settled H C old u p T.settled holds (ap (λ (f : ℕ → ℕ). f p.src) same ∙ ap (R i) src ∙ sym seq) min_al-up
             stored-knows;
       }
 

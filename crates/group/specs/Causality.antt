@@ -15,10 +15,10 @@ about (sent m f) = m
 about (accepted m) = m
 
 -- the messages sent, the oldest first
-abbrev pub sentIn : List Did → List Message
-sentIn [] = []
-sentIn (sent m f ∷ l) = sentIn l ++ (m ∷ [])
-sentIn (accepted m ∷ l) = sentIn l
+abbrev pub sent_in : List Did → List Message
+sent_in [] = []
+sent_in (sent m f ∷ l) = sent_in l ++ (m ∷ [])
+sent_in (accepted m ∷ l) = sent_in l
 
 -- In a group of n units p causally precedes q: q's sender k had sent or accepted p before it sent q, or a chain of such steps
 -- leads from p to q. A log has the newest first, so what came before stands behind.

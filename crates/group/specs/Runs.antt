@@ -42,32 +42,32 @@ wrote (copies x out) r = front 1 r ∷ []
 wrote (takes out) r = []
 
 -- the message in a frame, if it is a data frame
-abbrev pub messageOf : Option Said → List Message
-messageOf none = []
-messageOf (some (message m)) = m ∷ []
-messageOf (some (request r)) = []
+abbrev pub message_of : Option Said → List Message
+message_of none = []
+message_of (some (message m)) = m ∷ []
+message_of (some (request r)) = []
 
-abbrev pub messageIn : List ℕ → List Message
-messageIn l = messageOf (decode l)
+abbrev pub message_in : List ℕ → List Message
+message_in l = message_of (decode l)
 
 abbrev pub did : Call → Result → List Did
-did (sends d out) r = map (λ m. sent m (front 2 r)) (messageIn (front 2 r))
-did (hears l) r = map accepted (messageIn l)
+did (sends d out) r = map (λ m. sent m (front 2 r)) (message_in (front 2 r))
+did (hears l) r = map accepted (message_in l)
 did (asks k out) r = []
 did (copies x out) r = []
 did (takes out) r = []
 
 -- the message handed out by a call on the unit s
-abbrev pub handsOut : Call → State → List Place
-handsOut (sends d out) s = []
-handsOut (hears l) s = []
-handsOut (asks k out) s = []
-handsOut (copies x out) s = []
-handsOut (takes out) s = oldest s ∷ []
+abbrev pub hands_out : Call → State → List Place
+hands_out (sends d out) s = []
+hands_out (hears l) s = []
+hands_out (asks k out) s = []
+hands_out (copies x out) s = []
+hands_out (takes out) s = oldest s ∷ []
 
 -- l, where the call was done
-abbrev pub ifDone : {A : Type 0} → Result → List A → List A
-ifDone r l = cond (eqb r.answer 0) l []
+abbrev pub if_done : {A : Type 0} → Result → List A → List A
+if_done r l = cond (eqb r.answer 0) l []
 
 -- ---- events
 
@@ -100,7 +100,7 @@ module _ (act : State → Call → Result) where
   unfoldable pub after : Group → ℕ → Call → Group
   after g i c =
       let r : Result = act (g.unit i) c in
-      updated g i r.next (ifDone r (wrote c r)) (ifDone r (did c r)) (ifDone r (handsOut c (g.unit i)))
+      updated g i r.next (if_done r (wrote c r)) (if_done r (did c r)) (if_done r (hands_out c (g.unit i)))
 
   -- a group of n opened alike, after any such events, in any order
   pub data Run (n w cid : ℕ) (first : ℕ → ℕ) : Group → Type 0 where

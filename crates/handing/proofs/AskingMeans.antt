@@ -11,18 +11,18 @@ use Rattle.rules.specs.Maps.{between, at, units}
 use Rattle.rules.specs.Message.{request, encode}
 use Rattle.rules.specs.State.{State}
 use Rattle.rules.specs.Steps.{asking}
-use Rattle.rules.specs.Calls.{makeChecks, makeRequest}
+use Rattle.rules.specs.Calls.{make_checks, make_request}
 use Rattle.rules.proofs.AlikeLaws.{Alike, decide-alike}
 use Rattle.rules.proofs.MapsLaws.{between-low, between-high, units_in, length-listed, or_left}
 use Rattle.rules.proofs.MessageLaws.{length-request}
 use Rattle.state.specs.declared.Core.{Core}
 use Rattle.state.specs.View.{look}
-use Rattle.state.specs.Soundness.{soundOf}
+use Rattle.state.specs.Soundness.{sound_of}
 use Rattle.state.proofs.SoundLaws.{sound-look}
 use Rattle.state.proofs.RoomLaws.{sound-ranges}
 use Rattle.state.proofs.UnitsLaws.{take-units}
-use Rattle.handing.specs.Handing.{requestFor, askingChecks, askingOf}
-use Rattle.handing.specs.Meant.{handedMeans}
+use Rattle.handing.specs.Handing.{request_for, asking_checks, asking_of}
+use Rattle.handing.specs.Meant.{handed_means}
 
 -- the number of a unit
 pub unit-number : (n k : ℕ) → between 1 n k ≡ true → (l : List ℕ) → at l k ≡ units n (at l) k
@@ -34,7 +34,7 @@ module _ (c : Core) (acks bytes frames : List ℕ) (k : ℕ) (out : List ℕ) wh
 
   -- k is a unit
   module _ (u : between 1 c.n k ≡ true) where
-    requested : length c.req ≡ 8 → soundOf c acks ≡ true → requestFor c k ≡ asking s k
+    requested : length c.req ≡ 8 → sound_of c acks ≡ true → request_for c k ≡ asking s k
     unfolding asking look
     requested long h = rw (take-units c.n c.req (omega (arith, (sound-ranges c acks h).n-high)), unit-number c.n k u c.heard)
 
@@ -45,15 +45,15 @@ module _ (c : Core) (acks bytes frames : List ℕ) (k : ℕ) (out : List ℕ) wh
   is-unit : not (between 1 c.n k) || eqb k c.me ≡ false → between 1 c.n k ≡ true
   is-unit e = not-false _ (or_left (not (between 1 c.n k)) (eqb k c.me) e)
 
-  alike : Alike (askingChecks c acks k out) (makeChecks s k out)
-  unfolding makeChecks look
+  alike : Alike (asking_checks c acks k out) (make_checks s k out)
+  unfolding make_checks look
   alike = (
     ap not (sound-look c acks bytes frames),
     (refl, λ h. (refl, (refl, λ e. (rw (unit-number c.n k (is-unit e) c.heard, unit-number c.n k (is-unit e) c.req), (refl, λ m. (refl, (refl, λ z. tt))))))),
   )
 
-  pub asking-means : length c.req ≡ 8 → handedMeans s (askingOf c acks k out) ≡ makeRequest s k out
-  unfolding askingOf makeRequest
+  pub asking-means : length c.req ≡ 8 → handed_means s (asking_of c acks k out) ≡ make_request s k out
+  unfolding asking_of make_request
   asking-means long =
-      decide-alike (handedMeans s) _ _ _ _ (λ a. refl) (askingChecks c acks k out) (makeChecks s k out) alike
+      decide-alike (handed_means s) _ _ _ _ (λ a. refl) (asking_checks c acks k out) (make_checks s k out) alike
       (λ passed. let u = is-unit passed.1.0 in rw (size u, requested u long (not-false _ passed.0)))

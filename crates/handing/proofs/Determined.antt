@@ -7,7 +7,7 @@ use Rattle.state.specs.declared.Core.{Core}
 use Rattle.handing.specs.declared.Taken.{Taken}
 use Rattle.handing.specs.declared.Handed.{Handed}
 use Rattle.handing.specs.declared.looks.Look.{Look}
-use Rattle.handing.specs.Handing.{Given, Gives, takingOf, askingOf, copyingOf}
+use Rattle.handing.specs.Handing.{Given, Gives, taking_of, asking_of, copying_of}
 use Rattle.handing.specs.Looks.{look_of}
 
 -- the result, and every byte of the lent output
@@ -15,16 +15,16 @@ gives-determined : {A : Type 0} (g : Given A) (r q : A) (after other : List ℕ)
 gives-determined g r q after other a b = (a.result ∙ sym b.result, a.output ∙ sym b.output)
 
 pub taking-determined : (c : Core) (acks bytes out : List ℕ) (r q : Taken) (after other : List ℕ)
-    → Gives (takingOf c acks bytes out) r after → Gives (takingOf c acks bytes out) q other → (r ≡ q) × (after ≡ other)
-taking-determined c acks bytes out = gives-determined (takingOf c acks bytes out)
+    → Gives (taking_of c acks bytes out) r after → Gives (taking_of c acks bytes out) q other → (r ≡ q) × (after ≡ other)
+taking-determined c acks bytes out = gives-determined (taking_of c acks bytes out)
 
 pub asking-determined : (c : Core) (acks : List ℕ) (k : ℕ) (out : List ℕ) (r q : Handed) (after other : List ℕ)
-    → Gives (askingOf c acks k out) r after → Gives (askingOf c acks k out) q other → (r ≡ q) × (after ≡ other)
-asking-determined c acks k out = gives-determined (askingOf c acks k out)
+    → Gives (asking_of c acks k out) r after → Gives (asking_of c acks k out) q other → (r ≡ q) × (after ≡ other)
+asking-determined c acks k out = gives-determined (asking_of c acks k out)
 
 pub copying-determined : (c : Core) (acks frames : List ℕ) (x : ℕ) (out : List ℕ) (r q : Handed) (after other : List ℕ)
-    → Gives (copyingOf c acks frames x out) r after → Gives (copyingOf c acks frames x out) q other → (r ≡ q) × (after ≡ other)
-copying-determined c acks frames x out = gives-determined (copyingOf c acks frames x out)
+    → Gives (copying_of c acks frames x out) r after → Gives (copying_of c acks frames x out) q other → (r ≡ q) × (after ≡ other)
+copying-determined c acks frames x out = gives-determined (copying_of c acks frames x out)
 
 -- the contract of each look says that the result is what x shows
 pub look-determined : (x : Looked) (r q : Look) → r ≡ look_of x → q ≡ look_of x → r ≡ q

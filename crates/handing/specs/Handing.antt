@@ -4,11 +4,11 @@ use Rattle.rules.specs.Maps.{between, at}
 use Rattle.rules.specs.Message.{Request, request, encode}
 use Rattle.rules.specs.Calls.{Check, ◌⇒◌, decide, written}
 use Rattle.tables.specs.Rows.{part}
-use Rattle.lists.specs.Order.{senderOf, entry, withoutFirst}
-use Rattle.framewrite.specs.Writing.{requestOf}
+use Rattle.lists.specs.Order.{sender_of, entry, without_first}
+use Rattle.framewrite.specs.Writing.{request_of}
 use Rattle.state.specs.declared.Core.{Core}
-use Rattle.state.specs.Changed.{withOrder}
-use Rattle.state.specs.Soundness.{ownLow, soundOf}
+use Rattle.state.specs.Changed.{with_order}
+use Rattle.state.specs.Soundness.{own_low, sound_of}
 use Rattle.handing.specs.declared.Taken.{Taken}
 use Rattle.handing.specs.declared.Handed.{Handed}
 
@@ -30,76 +30,76 @@ giving checks refused done l out =
 -- ---- taking
 
 -- the oldest confirmed place, and the length of the data at place p
-abbrev pub oldestPlace : Core → ℕ
-oldestPlace c = entry c.order 0
+abbrev pub oldest_place : Core → ℕ
+oldest_place c = entry c.order 0
 
 abbrev pub length_at : Core → ℕ → ℕ
 length_at c p = get_or c.lens p 0
 
-abbrev pub notTaken : Core → ℕ → Taken
-notTaken c a = record { answer = a; src = 0; seq = 0; len = 0; core = c }
+abbrev pub not_taken : Core → ℕ → Taken
+not_taken c a = record { answer = a; src = 0; seq = 0; len = 0; core = c }
 
 -- the message at place p, the oldest confirmed one
-abbrev pub takenAt : Core → ℕ → Taken
-takenAt c p =
+abbrev pub taken_at : Core → ℕ → Taken
+taken_at c p =
     record {
       answer = 0;
-      src = senderOf p;
+      src = sender_of p;
       seq = get_or c.seqs p 0;
       len = length_at c p;
-      core = withOrder c (withoutFirst c.order);
+      core = with_order c (without_first c.order);
     }
 
-abbrev pub takingChecks : Core → List ℕ → List ℕ → List Check
-takingChecks c acks out =
-    (not (soundOf c acks) ⇒ 1)
+abbrev pub taking_checks : Core → List ℕ → List ℕ → List Check
+taking_checks c acks out =
+    (not (sound_of c acks) ⇒ 1)
     ∷ (eqb c.order.confirmed 0 ⇒ 18)
-    ∷ (ltb (length out) (length_at c (oldestPlace c)) ⇒ 16)
+    ∷ (ltb (length out) (length_at c (oldest_place c)) ⇒ 16)
     ∷ []
 
-unfoldable pub takingOf : Core → List ℕ → List ℕ → List ℕ → Given Taken
-takingOf c acks bytes out =
-    let p : ℕ = oldestPlace c in
-    giving (takingChecks c acks out) (notTaken c) (takenAt c p) (part bytes (48 * p) (length_at c p)) out
+unfoldable pub taking_of : Core → List ℕ → List ℕ → List ℕ → Given Taken
+taking_of c acks bytes out =
+    let p : ℕ = oldest_place c in
+    giving (taking_checks c acks out) (not_taken c) (taken_at c p) (part bytes (48 * p) (length_at c p)) out
 
 -- ---- asking and copying: the length of the frame
 
 abbrev pub handed : ℕ → ℕ → Handed
 handed a m = record { answer = a; len = m }
 
-abbrev pub notHanded : ℕ → Handed
-notHanded a = handed a 0
+abbrev pub not_handed : ℕ → Handed
+not_handed a = handed a 0
 
 -- the request for what is missing of k
-abbrev pub requestFor : Core → ℕ → Request
-requestFor c k = requestOf c.cid c.me (take c.n c.req) k (at c.heard k)
+abbrev pub request_for : Core → ℕ → Request
+request_for c k = request_of c.cid c.me (take c.n c.req) k (at c.heard k)
 
-abbrev pub askingChecks : Core → List ℕ → ℕ → List ℕ → List Check
-askingChecks c acks k out =
-    (not (soundOf c acks) ⇒ 1)
+abbrev pub asking_checks : Core → List ℕ → ℕ → List ℕ → List Check
+asking_checks c acks k out =
+    (not (sound_of c acks) ⇒ 1)
     ∷ (not (between 1 c.n k) || eqb k c.me ⇒ 5)
     ∷ (leb (at c.heard k) (at c.req k) ⇒ 18)
     ∷ (ltb (length out) (33 + 4 * c.n) ⇒ 16)
     ∷ []
 
-unfoldable pub askingOf : Core → List ℕ → ℕ → List ℕ → Given Handed
-askingOf c acks k out =
-    giving (askingChecks c acks k out) notHanded (handed 0 (33 + 4 * c.n)) (encode (request (requestFor c k))) out
+unfoldable pub asking_of : Core → List ℕ → ℕ → List ℕ → Given Handed
+asking_of c acks k out =
+    giving (asking_checks c acks k out) not_handed (handed 0 (33 + 4 * c.n)) (encode (request (request_for c k))) out
 
 -- the slot of the kept frame of number x, and the frame's length
-abbrev pub slotFor : Core → ℕ → ℕ
-slotFor c x = x - ownLow c
+abbrev pub slot_for : Core → ℕ → ℕ
+slot_for c x = x - own_low c
 
-abbrev pub lengthFor : Core → ℕ → ℕ
-lengthFor c x = get_or c.kept (slotFor c x) 0
+abbrev pub length_for : Core → ℕ → ℕ
+length_for c x = get_or c.kept (slot_for c x) 0
 
-abbrev pub copyingChecks : Core → List ℕ → ℕ → List ℕ → List Check
-copyingChecks c acks x out =
-    (not (soundOf c acks) ⇒ 1)
-    ∷ (not (leb (ownLow c) x && ltb x c.seq) ⇒ 18)
-    ∷ (ltb (length out) (lengthFor c x) ⇒ 16)
+abbrev pub copying_checks : Core → List ℕ → ℕ → List ℕ → List Check
+copying_checks c acks x out =
+    (not (sound_of c acks) ⇒ 1)
+    ∷ (not (leb (own_low c) x && ltb x c.seq) ⇒ 18)
+    ∷ (ltb (length out) (length_for c x) ⇒ 16)
     ∷ []
 
-unfoldable pub copyingOf : Core → List ℕ → List ℕ → ℕ → List ℕ → Given Handed
-copyingOf c acks frames x out =
-    giving (copyingChecks c acks x out) notHanded (handed 0 (lengthFor c x)) (part frames (117 * slotFor c x) (lengthFor c x)) out
+unfoldable pub copying_of : Core → List ℕ → List ℕ → ℕ → List ℕ → Given Handed
+copying_of c acks frames x out =
+    giving (copying_checks c acks x out) not_handed (handed 0 (length_for c x)) (part frames (117 * slot_for c x) (length_for c x)) out

@@ -8,8 +8,8 @@ use Rattle.handing.specs.declared.Handed.{Handed}
 use Rattle.handing.specs.Handing.{Given}
 
 -- the next unit has the arrays that it had
-abbrev pub takenMeans : List ℕ → List ℕ → List ℕ → Given Taken → Result
-takenMeans acks bytes frames g =
+abbrev pub taken_means : List ℕ → List ℕ → List ℕ → Given Taken → Result
+taken_means acks bytes frames g =
     let t : Taken = g.result in
     record {
       answer = t.answer;
@@ -19,5 +19,5 @@ takenMeans acks bytes frames g =
     }
 
 -- the unit stays as it was
-abbrev pub handedMeans : State → Given Handed → Result
-handedMeans s g = record { answer = g.result.answer; numbers = g.result.len ∷ []; next = s; output = g.output }
+abbrev pub handed_means : State → Given Handed → Result
+handed_means s g = record { answer = g.result.answer; numbers = g.result.len ∷ []; next = s; output = g.output }

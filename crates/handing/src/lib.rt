@@ -1,6 +1,6 @@
 // What a unit hands out without storing anything: the oldest confirmed message, a request, a kept frame, and looks.
 ghost use Rattle.std.specs.Prelude.{◌≡◌};
-ghost use Rattle.handing.specs.Handing.{Gives, notTaken, takingOf, askingOf, copyingOf};
+ghost use Rattle.handing.specs.Handing.{Gives, not_taken, taking_of, asking_of, copying_of};
 
 mod copy;
 pub mod looks;
@@ -31,7 +31,7 @@ pub struct Handed {
 
 // Takes the oldest confirmed message: its data stand at the front of the output, and its place is free.
 pub fn taking<'a>(c: Core, acks: &'a [u32], bytes: &'a [u8], out: &mut [u8]) -> Taken
-    ensures { Gives (takingOf c acks.now bytes.now out.old) result out.new }
+    ensures { Gives (taking_of c acks.now bytes.now out.old) result out.new }
 {
     if !sound(c, acks) {
         return not_taken(c, 1);
@@ -60,7 +60,7 @@ pub fn taking<'a>(c: Core, acks: &'a [u32], bytes: &'a [u8], out: &mut [u8]) -> 
 }
 
 fn not_taken(c: Core, answer: u32) -> Taken
-    ensures { result ≡ notTaken c answer }
+    ensures { result ≡ not_taken c answer }
 {
     Taken {
         answer,
@@ -73,7 +73,7 @@ fn not_taken(c: Core, answer: u32) -> Taken
 
 // Makes the request for what is missing of unit k, at the front of the output.
 pub fn asking(c: Core, acks: &[u32], k: u8, out: &mut [u8]) -> Handed
-    ensures { Gives (askingOf c acks.now k out.old) result out.new }
+    ensures { Gives (asking_of c acks.now k out.old) result out.new }
 {
     if !sound(c, acks) {
         return Handed { answer: 1, len: 0 };
@@ -99,7 +99,7 @@ pub fn asking(c: Core, acks: &[u32], k: u8, out: &mut [u8]) -> Handed
 
 // Copies the kept frame of number x to the front of the output.
 pub fn copying<'a>(c: Core, acks: &'a [u32], frames: &'a [u8], x: u32, out: &mut [u8]) -> Handed
-    ensures { Gives (copyingOf c acks.now frames.now x out.old) result out.new }
+    ensures { Gives (copying_of c acks.now frames.now x out.old) result out.new }
 {
     if !sound(c, acks) {
         return Handed { answer: 1, len: 0 };

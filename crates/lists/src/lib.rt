@@ -5,7 +5,7 @@ mod preack;
 
 ghost use Rattle.std.specs.Prelude.{◌≡◌, [], ◌∷◌, ◌++◌, length, drop, ◌-◌};
 ghost use Rattle.rules.specs.Maps.{listed};
-ghost use Rattle.lists.specs.Order.{is_of, only, total, entry, waitings, takens, slots_of, freeOf, with_last, withoutFirst};
+ghost use Rattle.lists.specs.Order.{is_of, only, total, entry, waitings, takens, slots_of, free_of, with_last, without_first};
 ghost use Rattle.lists.specs.Settle.{settled_of};
 
 use tables;
@@ -76,7 +76,7 @@ fn slots(o: Order, j: u8) -> [bool; 16]
 
 // The first of sender j's slots 0 to most - 1 that is free; most where none is.
 pub fn free_slot(o: Order, j: u8, most: u8) -> u8
-    ensures { result ≡ freeOf o j most }
+    ensures { result ≡ free_of o j most }
 {
     let marks = slots(o, j);
     let mut k: u8 = 0;
@@ -121,7 +121,7 @@ fn shifted(list: [u8; 128]) -> [u8; 128]
 
 // Without the oldest confirmed place.
 pub fn without_first(o: Order) -> Order
-    ensures { result ≡ withoutFirst o }
+    ensures { result ≡ without_first o }
 {
     if o.confirmed == 0 {
         return o;

@@ -9,9 +9,9 @@ use Rattle.rules.proofs.StoresLaws.{sets-++}
 use Rattle.handing.specs.Handing.{Given, Gives}
 use Rattle.unit.specs.declared.Unit.{Unit}
 use Rattle.replay.specs.declared.calls.Made.{Made}
-use Rattle.replay.specs.Record.{roomOf, head_of}
+use Rattle.replay.specs.Record.{room_of, head_of}
 use Rattle.replay.specs.Calls.{made_of}
-use Rattle.replay.specs.Run.{closedUnit, blank, answeredOf, recordAt, unit_at, oneMore, run_of}
+use Rattle.replay.specs.Run.{closed_unit, blank, answered_of, record_at, unit_at, one_more, run_of}
 
 -- ---- a reply
 
@@ -21,14 +21,14 @@ unfolding blank
 lent-long b o r e h = omega (arith, ap length e, length-append o (drop r b), length-take r b, length-drop r b)
 
 pub answered-gives : (u : Unit) (l out : List ℕ) (at r : ℕ) (b : List ℕ) (m : Made) (o head mid after : List ℕ)
-    → r ≡ roomOf l → b ≡ blank → Gives (made_of u l (take r b)) m o → head ≡ head_of m.answer m.a m.b m.c
-    → mid ≡ sets out at head → after ≡ sets mid (at + 16) (o ++ drop r b) → Gives (answeredOf u l out at) m.unit after
-unfolding answeredOf
+    → r ≡ room_of l → b ≡ blank → Gives (made_of u l (take r b)) m o → head ≡ head_of m.answer m.a m.b m.c
+    → mid ≡ sets out at head → after ≡ sets mid (at + 16) (o ++ drop r b) → Gives (answered_of u l out at) m.unit after
+unfolding answered_of
 answered-gives u l out at r b m o head mid after room lent g front stored more =
-    let made : Gives (made_of u l (take (roomOf l) blank)) m o = rw (room, lent) at g in
+    let made : Gives (made_of u l (take (room_of l) blank)) m o = rw (room, lent) at g in
     record {
       result = ap (λ (x : Made). x.unit) made.result;
-      output = rw (more, stored, front, room, lent, ← made.result, ← made.output) (sets-++ out at (head_of m.answer m.a m.b m.c) (o ++ drop (roomOf l) blank));
+      output = rw (more, stored, front, room, lent, ← made.result, ← made.output) (sets-++ out at (head_of m.answer m.a m.b m.c) (o ++ drop (room_of l) blank));
     }
 
 -- ---- a run
@@ -46,12 +46,12 @@ module _ (before : List Unit) (l out : List ℕ) where
   none-run = refl
 
   pub one-run : (i : ℕ) (units : List Unit) (o : List ℕ) → After i units o → (k : ℕ) → k ≡ unit_at l i → k < length units
-      → (d v : Unit) (after : List ℕ) → Gives (answeredOf (get_or units k d) (recordAt l i) o (272 * i)) v after
+      → (d v : Unit) (after : List ℕ) → Gives (answered_of (get_or units k d) (record_at l i) o (272 * i)) v after
       → After (i + 1) (set units k v) after
   unfolding run_of
   one-run i units o e k at h d v after g =
       let next : suc i ≡ i + 1 = omega arith in
-      rw (g.result, g.output, read-within units k d closedUnit h, at) (ap (oneMore l i) e ∙ ap (run_of before l out) next)
+      rw (g.result, g.output, read-within units k d closed_unit h, at) (ap (one_more l i) e ∙ ap (run_of before l out) next)
 
   pub all-run : (i n : ℕ) (units : List Unit) (o : List ℕ) → After i units o → i ≡ n → Gives (run_of before l out n) units o
   all-run i n units o e h =

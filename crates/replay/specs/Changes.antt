@@ -10,8 +10,8 @@ abbrev pub cell : ℕ → ℕ → ℕ
 cell k j = 8 * (k - 1) + (j - 1)
 
 -- the place at position k
-abbrev pub placeAt : Order → ℕ → ℕ
-placeAt o k = get_or o.list k 0
+abbrev pub place_at : Order → ℕ → ℕ
+place_at o k = get_or o.list k 0
 
 -- i, n, W, CID and SEQ
 unfoldable pub with_number : Core → ℕ → ℕ → Core
@@ -33,8 +33,8 @@ with_number c what x =
     }
 
 -- REQ_k, HEARD_k, BUF_k and AL_kj
-unfoldable pub withEntry : Core → ℕ → ℕ → ℕ → ℕ → Core
-withEntry c what k j x =
+unfoldable pub with_entry : Core → ℕ → ℕ → ℕ → ℕ → Core
+with_entry c what k j x =
     record {
       me = c.me;
       n = c.n;
@@ -52,8 +52,8 @@ withEntry c what k j x =
     }
 
 -- SEQ and data length of the message at position k
-unfoldable pub withMessage : Core → ℕ → ℕ → ℕ → Core
-withMessage c what k x =
+unfoldable pub with_message : Core → ℕ → ℕ → ℕ → Core
+with_message c what k x =
     record {
       me = c.me;
       n = c.n;
@@ -65,32 +65,32 @@ withMessage c what k x =
       buf = c.buf;
       al = c.al;
       kept = c.kept;
-      seqs = cond (eqb what 10) (set c.seqs (placeAt c.order k) x) c.seqs;
-      lens = cond (eqb what 11) (set c.lens (placeAt c.order k) (x % 256)) c.lens;
+      seqs = cond (eqb what 10) (set c.seqs (place_at c.order k) x) c.seqs;
+      lens = cond (eqb what 11) (set c.lens (place_at c.order k) (x % 256)) c.lens;
       order = c.order;
     }
 
 -- PAL_kj, and the place at position k
-unfoldable pub withOrder : Order → ℕ → ℕ → ℕ → ℕ → Order
-withOrder o what k j x =
+unfoldable pub with_order : Order → ℕ → ℕ → ℕ → ℕ → Order
+with_order o what k j x =
     record {
       pal = cond (eqb what 5) (set o.pal (cell k j) x) o.pal;
-      list = cond (eqb what 13) (set o.list k (placeAt o j)) o.list;
+      list = cond (eqb what 13) (set o.list k (place_at o j)) o.list;
       confirmed = o.confirmed;
       ordered = o.ordered;
       waiting = o.waiting;
     }
 
 -- ACK_j of the message at position k
-unfoldable pub withAck : Unit → ℕ → ℕ → ℕ → ℕ → List ℕ
-withAck u what k j x = cond (eqb what 12) (set u.acks (8 * placeAt u.core.order k + (j - 1)) x) u.acks
+unfoldable pub with_ack : Unit → ℕ → ℕ → ℕ → ℕ → List ℕ
+with_ack u what k j x = cond (eqb what 12) (set u.acks (8 * place_at u.core.order k + (j - 1)) x) u.acks
 
-unfoldable pub changedOf : Unit → ℕ → ℕ → ℕ → ℕ → Unit
-changedOf u what k j x =
-    let c : Core = withMessage (withEntry (with_number u.core what x) what k j x) what k x in
+unfoldable pub changed_of : Unit → ℕ → ℕ → ℕ → ℕ → Unit
+changed_of u what k j x =
+    let c : Core = with_message (with_entry (with_number u.core what x) what k j x) what k x in
     record {
-      core = state.withOrder c (withOrder u.core.order what k j x);
-      acks = withAck u what k j x;
+      core = state.with_order c (with_order u.core.order what k j x);
+      acks = with_ack u what k j x;
       bytes = u.bytes;
       frames = u.frames;
     }

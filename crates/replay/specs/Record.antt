@@ -13,16 +13,16 @@ number_at l p = 16777216 * byte_at l p + 65536 * byte_at l (p + 1) + 256 * byte_
 abbrev pub call_of : List ℕ → ℕ
 call_of l = byte_at l 0
 
-abbrev pub xOf : List ℕ → ℕ
-xOf l = number_at l 2
+abbrev pub x_of : List ℕ → ℕ
+x_of l = number_at l 2
 
 -- the unit that is named by the last byte of x
 abbrev pub k_of : List ℕ → ℕ
-k_of l = xOf l % 256
+k_of l = x_of l % 256
 
 -- how many bytes of the output are lent
-abbrev pub roomOf : List ℕ → ℕ
-roomOf l = byte_at l 6
+abbrev pub room_of : List ℕ → ℕ
+room_of l = byte_at l 6
 
 -- those of the 200 bytes that count
 abbrev pub text_of : List ℕ → List ℕ

@@ -1,7 +1,7 @@
 // A call on a unit, as its record names it.
 ghost use Rattle.std.specs.Prelude.{◌≡◌, ◌≤◌, length};
 ghost use Rattle.handing.specs.Handing.{Gives};
-ghost use Rattle.replay.specs.Calls.{openMade, sendMade, arriveMade, handedMade, askMade, copyMade, takeMade, lookMade, seenMade, made_of};
+ghost use Rattle.replay.specs.Calls.{open_made, send_made, arrive_made, handed_made, ask_made, copy_made, take_made, look_made, seen_made, made_of};
 
 use crate::changes::changed;
 use crate::record::{number_at, text};
@@ -22,7 +22,7 @@ pub struct Made {
 }
 
 fn opened(s: &[u8]) -> Made
-    ensures { result ≡ openMade s.now }
+    ensures { result ≡ open_made s.now }
 {
     let first = [
         number_at(s, 11),
@@ -52,7 +52,7 @@ fn opened(s: &[u8]) -> Made
 }
 
 fn sent(u: Unit, text: &[u8], out: &mut [u8]) -> Made
-    ensures { Gives (sendMade u text.now out.old) result out.new }
+    ensures { Gives (send_made u text.now out.old) result out.new }
 {
     let m = u.send(text, out);
     let unit = m.unit;
@@ -66,7 +66,7 @@ fn sent(u: Unit, text: &[u8], out: &mut [u8]) -> Made
 }
 
 fn arrived(u: Unit, frame: &[u8]) -> Made
-    ensures { result ≡ arriveMade u frame.now }
+    ensures { result ≡ arrive_made u frame.now }
 {
     let m = u.arrive(frame);
     let unit = m.unit;
@@ -81,7 +81,7 @@ fn arrived(u: Unit, frame: &[u8]) -> Made
 
 // A request and a copy leave the unit as it was.
 fn handed(u: Unit, h: Handed) -> Made
-    ensures { result ≡ handedMade u h }
+    ensures { result ≡ handed_made u h }
 {
     Made {
         answer: h.answer,
@@ -93,21 +93,21 @@ fn handed(u: Unit, h: Handed) -> Made
 }
 
 fn asked(u: Unit, k: u8, out: &mut [u8]) -> Made
-    ensures { Gives (askMade u k out.old) result out.new }
+    ensures { Gives (ask_made u k out.old) result out.new }
 {
     let m = u.request(k, out);
     handed(u, m)
 }
 
 fn copied(u: Unit, x: u32, out: &mut [u8]) -> Made
-    ensures { Gives (copyMade u x out.old) result out.new }
+    ensures { Gives (copy_made u x out.old) result out.new }
 {
     let m = u.copy(x, out);
     handed(u, m)
 }
 
 fn taken(u: Unit, out: &mut [u8]) -> Made
-    ensures { Gives (takeMade u out.old) result out.new }
+    ensures { Gives (take_made u out.old) result out.new }
 {
     let m = u.take(out);
     let unit = m.unit;
@@ -121,7 +121,7 @@ fn taken(u: Unit, out: &mut [u8]) -> Made
 }
 
 fn looked(u: Unit, l: Look) -> Made
-    ensures { result ≡ lookMade u l }
+    ensures { result ≡ look_made u l }
 {
     Made {
         answer: l.answer,
@@ -134,7 +134,7 @@ fn looked(u: Unit, l: Look) -> Made
 
 // The calls that change nothing and write nothing.
 fn seen(u: Unit, call: u8, k: u8) -> Made
-    ensures { result ≡ seenMade u call k }
+    ensures { result ≡ seen_made u call k }
 {
     match call {
         6 => looked(u, u.to_take()),

@@ -1,6 +1,6 @@
 // Units that no run of calls makes: one number of a unit is set.
 ghost use Rattle.std.specs.Prelude.{◌≡◌, set};
-ghost use Rattle.replay.specs.Changes.{with_number, withEntry, withMessage, withOrder, withAck, changedOf};
+ghost use Rattle.replay.specs.Changes.{with_number, with_entry, with_message, with_order, with_ack, changed_of};
 
 use lists::Order;
 use state::Core;
@@ -48,7 +48,7 @@ fn with_number(mut c: Core, what: u8, x: u32) -> Core
 
 // REQ_k, HEARD_k, BUF_k and AL_kj.
 fn with_entry(mut c: Core, what: u8, k: u8, j: u8, x: u32) -> Core
-    ensures { result ≡ withEntry c what k j x }
+    ensures { result ≡ with_entry c what k j x }
 {
     match what {
         1 => {
@@ -82,7 +82,7 @@ fn with_entry(mut c: Core, what: u8, k: u8, j: u8, x: u32) -> Core
 
 // SEQ and data length of the message at position k.
 fn with_message(mut c: Core, what: u8, k: u8, x: u32) -> Core
-    ensures { result ≡ withMessage c what k x }
+    ensures { result ≡ with_message c what k x }
 {
     let order = c.order;
     let list = order.list;
@@ -107,7 +107,7 @@ fn with_message(mut c: Core, what: u8, k: u8, x: u32) -> Core
 
 // PAL_kj, and the place at position k.
 fn with_order(mut o: Order, what: u8, k: u8, j: u8, x: u32) -> Order
-    ensures { result ≡ withOrder o what k j x }
+    ensures { result ≡ with_order o what k j x }
 {
     match what {
         5 => {
@@ -130,7 +130,7 @@ fn with_order(mut o: Order, what: u8, k: u8, j: u8, x: u32) -> Order
 
 // ACK_j of the message at position k.
 fn with_ack(u: Unit, what: u8, k: u8, j: u8, x: u32) -> [u32; 1024]
-    ensures { result ≡ withAck u what k j x }
+    ensures { result ≡ with_ack u what k j x }
 {
     let c = u.core;
     let order = c.order;
@@ -146,7 +146,7 @@ fn with_ack(u: Unit, what: u8, k: u8, j: u8, x: u32) -> [u32; 1024]
 
 // One number of the unit is set to x; where there is no such thing, none is.
 pub fn changed(mut u: Unit, what: u8, k: u8, j: u8, x: u32) -> Unit
-    ensures { result ≡ changedOf u what k j x }
+    ensures { result ≡ changed_of u what k j x }
 {
     let acks = with_ack(u, what, k, j, x);
     let c = u.core;

@@ -6,7 +6,7 @@ mod record;
 
 ghost use Rattle.std.specs.Prelude.{◌≡◌, ◌+◌, ◌*◌, ◌≤◌, length, replicate};
 ghost use Rattle.handing.specs.Handing.{Gives};
-ghost use Rattle.replay.specs.Run.{closedUnit, blank, answeredOf, run_of};
+ghost use Rattle.replay.specs.Run.{closed_unit, blank, answered_of, run_of};
 
 use libc::{STDIN_FILENO, STDOUT_FILENO};
 use record::head;
@@ -23,7 +23,7 @@ const PART: usize = 64;
 
 // Eight closed units.
 fn closed() -> [Unit; Unit::MOST_UNITS]
-    ensures { result ≡ replicate 8 closedUnit }
+    ensures { result ≡ replicate 8 closed_unit }
 {
     let none = Unit::open(Opening {
         me: 0,
@@ -46,7 +46,7 @@ fn blank() -> [u8; 256]
 // The call of a record on a unit: its reply goes to the output from a place on.
 fn answered(u: Unit, s: &[u8], out: &mut [u8], at: usize) -> Unit
     requires { (208 ≤ length s.now) × (at + 272 ≤ length out.old) }
-    ensures { Gives (answeredOf u s.now out.old at) result out.new }
+    ensures { Gives (answered_of u s.now out.old at) result out.new }
 {
     let mut lent = blank();
     let room = tables::byte(s, 6) as usize;

@@ -10,10 +10,10 @@ use lib.ListN.{length}
 use borrow.Author.Tests.{ltb-false, leb-true, eqb-true, eqb-false, not-false}
 use Rattle.rules.specs.Maps.{between, at, every}
 use Rattle.rules.specs.Message.{Message}
-use Rattle.rules.specs.State.{State, minAL, places}
+use Rattle.rules.specs.State.{State, min_al, places}
 use Rattle.rules.specs.Steps.{known}
 use Rattle.rules.specs.Sound.{sound}
-use Rattle.rules.specs.Calls.{full, foreign, dataChecks, arriveData}
+use Rattle.rules.specs.Calls.{full, foreign, data_checks, arrive_data}
 use Rattle.rules.proofs.MapsLaws.{Eq?, same, other, eq?, between-low, between-high, least-le, every-at, or_left, or_right}
 use Rattle.rules.proofs.CallsLaws.{Passed, data-cases}
 use Rattle.rules.proofs.ChecksLaws.{refused-above}
@@ -66,8 +66,8 @@ known_at s p h k a b d = go (eq? k p.src) (every-at 1 s.n (λ k. cond (eqb k p.s
     go (same e) x = absurd (d e)
     go (other e) x = leb-true (at p.ack k) (s.req k) x
 
-pub passed-accepts : (s : State) (p : Message) → Passed (dataChecks s p) → Accepts s p
-unfolding dataChecks
+pub passed-accepts : (s : State) (p : Message) → Passed (data_checks s p) → Accepts s p
+unfolding data_checks
 passed-accepts s p h =
     let all : every 1 s.n (λ k. leb (s.al k p.src) (at p.ack k)) ≡ true = not-false _ (search) in
     record {
@@ -80,14 +80,14 @@ passed-accepts s p h =
       room = search;
     }
 
-pub accepted-facts : (s : State) (p : Message) → (arriveData s p).answer ≡ 0 → Accepts s p
-unfolding dataChecks
+pub accepted-facts : (s : State) (p : Message) → (arrive_data s p).answer ≡ 0 → Accepts s p
+unfolding data_checks
 accepted-facts s p =
     data-cases s (λ r. r.answer ≡ 0 → Accepts s p) p (λ a r e. absurd (omega (arith, refused-above 0 r refl))) (λ h e. passed-accepts s p h)
 
 -- so what it expects next of this unit is not below what is kept
-pub accepts-low : (s : State) (p : Message) → Accepts s p → minAL s s.me ≤ at p.ack s.me
-unfolding minAL
+pub accepts-low : (s : State) (p : Message) → Accepts s p → min_al s s.me ≤ at p.ack s.me
+unfolding min_al
 accepts-low s p f =
     let h = f.comes in
     let r = h.sound.ranges in

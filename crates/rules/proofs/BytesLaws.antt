@@ -7,7 +7,7 @@ use native.Mathlib.Omega.{arith}
 use lib.ListN.{length, get_or, take, drop, length-append, length-drop}
 use lib.Pow.{pow-add}
 use lib.Seq.{length-take-le, take_at, drop_at, drop-drop, take-add}
-use Rattle.rules.specs.Bytes.{bytes, number, all_bytes, allNumbers}
+use Rattle.rules.specs.Bytes.{bytes, number, all_bytes, all_numbers}
 use Rattle.rules.specs.Lawful.{Each, nil, cons, Bytes}
 
 -- ---- each of a list
@@ -104,63 +104,63 @@ bytes-suc w x h =
 
 -- ---- numbers one after the other
 
-pub length-allBytes : (w : ℕ) (xs : List ℕ) → length (all_bytes w xs) ≡ w * length xs
-length-allBytes w [] = sym (mul-zero w)
-length-allBytes w (x ∷ xs) = simp (length-append, length-bytes, length-allBytes w xs) (omega (arith, mul-suc w (length xs)))
+pub length-all_bytes : (w : ℕ) (xs : List ℕ) → length (all_bytes w xs) ≡ w * length xs
+length-all_bytes w [] = sym (mul-zero w)
+length-all_bytes w (x ∷ xs) = simp (length-append, length-bytes, length-all_bytes w xs) (omega (arith, mul-suc w (length xs)))
 
 -- numbers of one byte are the bytes
-pub allBytes-one : (l : List ℕ) → all_bytes 1 l ≡ l
-allBytes-one [] = refl
-allBytes-one (x ∷ l) = rw (div-one x, allBytes-one l)
+pub all_bytes-one : (l : List ℕ) → all_bytes 1 l ≡ l
+all_bytes-one [] = refl
+all_bytes-one (x ∷ l) = rw (div-one x, all_bytes-one l)
 
-pub each-allBytes : (w : ℕ) (xs : List ℕ) → Each (λ x. x < 256 ^ w) xs → Bytes (all_bytes w xs)
-each-allBytes w [] e = nil
-each-allBytes w (x ∷ xs) e =
-    each-++ (each-bytes w x (each-head e)) (each-allBytes w xs (each_tail e))
+pub each-all_bytes : (w : ℕ) (xs : List ℕ) → Each (λ x. x < 256 ^ w) xs → Bytes (all_bytes w xs)
+each-all_bytes w [] e = nil
+each-all_bytes w (x ∷ xs) e =
+    each-++ (each-bytes w x (each-head e)) (each-all_bytes w xs (each_tail e))
 
-pub length-allNumbers : (w n : ℕ) (l : List ℕ) → length (allNumbers w n l) ≡ n
-length-allNumbers w zero l = refl
-length-allNumbers w (suc n) l = ap suc (length-allNumbers w n (drop w l))
+pub length-all_numbers : (w n : ℕ) (l : List ℕ) → length (all_numbers w n l) ≡ n
+length-all_numbers w zero l = refl
+length-all_numbers w (suc n) l = ap suc (length-all_numbers w n (drop w l))
 
-pub allNumbers-suc : (w n : ℕ) (l : List ℕ) → allNumbers w (suc n) l ≡ allNumbers w n l ++ (number (take w (drop (w * n) l)) ∷ [])
-allNumbers-suc w zero l = rw mul-zero
-allNumbers-suc w (suc n) l =
+pub all_numbers-suc : (w n : ℕ) (l : List ℕ) → all_numbers w (suc n) l ≡ all_numbers w n l ++ (number (take w (drop (w * n) l)) ∷ [])
+all_numbers-suc w zero l = rw mul-zero
+all_numbers-suc w (suc n) l =
     let place : w + w * n ≡ w * suc n = omega (arith, mul-suc w n) in
-    rw (allNumbers-suc w n (drop w l), drop-drop (w * n) w l, place)
+    rw (all_numbers-suc w n (drop w l), drop-drop (w * n) w l, place)
 
-pub allNumbers-one : (l : List ℕ) → allNumbers 1 (length l) l ≡ l
-allNumbers-one [] = refl
-allNumbers-one (x ∷ l) =
+pub all_numbers-one : (l : List ℕ) → all_numbers 1 (length l) l ≡ l
+all_numbers-one [] = refl
+all_numbers-one (x ∷ l) =
     let byte : x * 1 + 0 ≡ x = omega arith in
-    rw (byte, allNumbers-one l)
+    rw (byte, all_numbers-one l)
 
 -- whatever follows
-pub allNumbers-allBytes : (w : ℕ) (xs r : List ℕ) → Each (λ x. x < 256 ^ w) xs → allNumbers w (length xs) (all_bytes w xs ++ r) ≡ xs
-allNumbers-allBytes w [] r e = refl
-allNumbers-allBytes w (x ∷ xs) r e =
+pub all_numbers-all_bytes : (w : ℕ) (xs r : List ℕ) → Each (λ x. x < 256 ^ w) xs → all_numbers w (length xs) (all_bytes w xs ++ r) ≡ xs
+all_numbers-all_bytes w [] r e = refl
+all_numbers-all_bytes w (x ∷ xs) r e =
     rw (
       append_assoc (bytes w x) (all_bytes w xs) r,
       take_at (bytes w x) (all_bytes w xs ++ r) w (length-bytes w x),
       drop_at (bytes w x) (all_bytes w xs ++ r) w (length-bytes w x),
       number-bytes w x (each-head e),
-      allNumbers-allBytes w xs r (each_tail e),
+      all_numbers-all_bytes w xs r (each_tail e),
     )
 
 module _ (w : ℕ) where
-  pub each-allNumbers : (n : ℕ) (l : List ℕ) → w * n ≤ length l → Bytes l → Each (λ x. x < 256 ^ w) (allNumbers w n l)
-  each-allNumbers zero l h e = nil
-  each-allNumbers (suc n) l h e =
+  pub each-all_numbers : (n : ℕ) (l : List ℕ) → w * n ≤ length l → Bytes l → Each (λ x. x < 256 ^ w) (all_numbers w n l)
+  each-all_numbers zero l h e = nil
+  each-all_numbers (suc n) l h e =
       let more = mul-suc w n in
       let short : w * n ≤ length (drop w l) = simp length-drop (omega arith) in
       cons (rw (length-take-le w l (omega arith)) at (number-< (take w l) (each_take w e)))
-      (each-allNumbers n (drop w l) short (each-drop w e))
+      (each-all_numbers n (drop w l) short (each-drop w e))
 
-  pub allBytes-allNumbers : (n : ℕ) (l : List ℕ) → w * n ≤ length l → Bytes l → all_bytes w (allNumbers w n l) ≡ take (w * n) l
-  allBytes-allNumbers zero l h e = rw mul-zero
-  allBytes-allNumbers (suc n) l h e =
+  pub all_bytes-all_numbers : (n : ℕ) (l : List ℕ) → w * n ≤ length l → Bytes l → all_bytes w (all_numbers w n l) ≡ take (w * n) l
+  all_bytes-all_numbers zero l h e = rw mul-zero
+  all_bytes-all_numbers (suc n) l h e =
       let more = mul-suc w n in
       let short : w * n ≤ length (drop w l) = simp length-drop (omega arith) in
       let one : bytes w (number (take w l)) ≡ take w l =
       subst (λ k. bytes k (number (take w l)) ≡ take w l) (length-take-le w l (omega arith)) (bytes-number (take w l) (each_take w e)) in
       let sum : w * suc n ≡ w + w * n = omega arith in
-      rw (one, allBytes-allNumbers n (drop w l) short (each-drop w e), sum, take-add w (w * n) l)
+      rw (one, all_bytes-all_numbers n (drop w l) short (each-drop w e), sum, take-add w (w * n) l)

@@ -8,7 +8,7 @@ use native.Mathlib.Omega.{arith}
 use lib.ListN.{length}
 use Rattle.rules.specs.Maps.{among}
 use Rattle.rules.specs.Message.{Message, message, encode}
-use Rattle.rules.specs.State.{State, minAL}
+use Rattle.rules.specs.State.{State, min_al}
 use Rattle.rules.specs.Steps.{keeping, outgoing, sent}
 use Rattle.rules.specs.Sound.{sound}
 use Rattle.rules.specs.Calls.{full, Call, sends, hears, asks, copies, takes, call}
@@ -19,7 +19,7 @@ use Rattle.rules.proofs.CallCases.{call-cases, next-all, Refuses, is-unsound, is
 use Rattle.rules.proofs.Demand1Laws.{demand1}
 use Rattle.rules.proofs.SoundLaws.{Kept, Sound, sound-facts, facts-sound}
 use Rattle.rules.proofs.LimitsLaws.{Limits, decode-limits}
-use Rattle.rules.proofs.KeepsSound.{Storable, accepted-sound, withoutTaken-sound, noted-sound}
+use Rattle.rules.proofs.KeepsSound.{Storable, accepted-sound, without_taken-sound, noted-sound}
 use Rattle.rules.proofs.AcceptedLaws.{Accepts, passed-accepts, accepts-low}
 use Rattle.rules.proofs.SendLaws.{Sends, passed-sends, outgoing-carries}
 use Rattle.rules.proofs.TakenLaws.{passed-takes}
@@ -55,14 +55,14 @@ arrival-storable s p f m =
 -- ---- a send
 
 sent-kept : (s : State) (d out : List ℕ) → Sends s d out → Kept (keeping s (outgoing s d))
-unfolding minAL outgoing
+unfolding min_al outgoing
 sent-kept s d out f =
     record {
       short =
-          upd-all s.kept s.seq frame (λ x l. minAL s s.me ≤ x → x < suc s.seq → 37 + 4 * s.n ≤ length l)
+          upd-all s.kept s.seq frame (λ x l. min_al s s.me ≤ x → x < suc s.seq → 37 + 4 * s.n ≤ length l)
           (λ a b. omega (arith, long)) (λ x e a b. g.kept.short x a (omega arith));
       long =
-          upd-all s.kept s.seq frame (λ x l. minAL s s.me ≤ x → x < suc s.seq → length l ≤ 85 + 4 * s.n)
+          upd-all s.kept s.seq frame (λ x l. min_al s s.me ≤ x → x < suc s.seq → length l ≤ 85 + 4 * s.n)
           (λ a b. omega (arith, long, f.short)) (λ x e a b. g.kept.long x a (omega arith));
     }
   where
@@ -76,7 +76,7 @@ sent-kept s d out f =
     long = omega (arith, length-message (outgoing s d), (outgoing-carries s d g).count)
 
 pub send-storable : (s : State) (d out : List ℕ) → Sends s d out → Storable (keeping s (outgoing s d)) (outgoing s d)
-unfolding minAL outgoing full
+unfolding min_al outgoing full
 send-storable s d out f =
     let g = f.sound in
     let c = outgoing-carries s d g in
@@ -115,7 +115,7 @@ call-sound s c h =
       notes = λ p. noted-sound s p f;
       sends = λ d out x. accepted-sound (keeping s (outgoing s d)) (outgoing s d) (send-storable s d out (passed-sends s d out x));
       accepts = λ l p e x. accepted-sound s p (arrival-storable s p (passed-accepts s p x) (decode-limits l p e));
-      takes = λ out x. withoutTaken-sound s _ _ (passed-takes s out x).first f;
+      takes = λ out x. without_taken-sound s _ _ (passed-takes s out x).first f;
     }) c)
 
 -- ---- answer 1

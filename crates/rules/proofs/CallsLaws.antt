@@ -7,8 +7,8 @@ use lib.ListN.{length}
 use Rattle.rules.specs.Maps.{among}
 use Rattle.rules.specs.Message.{Message, Request, message, request, encode}
 use Rattle.rules.specs.State.{State}
-use Rattle.rules.specs.Steps.{outgoing, noted, asking, resentFrom, resentTo, accepted, sent, withoutTaken}
-use Rattle.rules.specs.Calls.{Check, decide, Result, refusal, written, sendChecks, send, dataChecks, arriveData, requestChecks, arriveRequest, makeChecks, makeRequest, copyChecks, copy, oldest, takeChecks, take}
+use Rattle.rules.specs.Steps.{outgoing, noted, asking, resent_from, resent_to, accepted, sent, without_taken}
+use Rattle.rules.specs.Calls.{Check, decide, Result, refusal, written, send_checks, send, data_checks, arrive_data, request_checks, arrive_request, make_checks, make_request, copy_checks, copy, oldest, take_checks, take}
 
 -- no test holds
 abbrev pub Passed : List Check → Type 0
@@ -31,43 +31,43 @@ module _ {A : Type 0} (P : A → Type 0) (refused : ℕ → A) (done : A) where
       go false x y = y refl
 
 module _ (s : State) (P : Result → Type 0) where
-  pub send-cases : (d out : List ℕ) → ((a : ℕ) → Refused a (sendChecks s d out) → P (refusal 2 s out a))
-      → (Passed (sendChecks s d out)
+  pub send-cases : (d out : List ℕ) → ((a : ℕ) → Refused a (send_checks s d out) → P (refusal 2 s out a))
+      → (Passed (send_checks s d out)
       → let f = encode (message (outgoing s d)) in
       P (record { answer = 0; numbers = s.seq ∷ length f ∷ []; next = sent s (outgoing s d); output = written out f }))
       → P (send s d out)
   unfolding send
-  send-cases d out f g = decide-cases P _ _ (sendChecks s d out) f g
+  send-cases d out f g = decide-cases P _ _ (send_checks s d out) f g
 
-  pub data-cases : (p : Message) → ((a : ℕ) → Refused a (dataChecks s p) → P (refusal 2 (cond (among a (9 ∷ 10 ∷ 12 ∷ [])) (noted s p) s) [] a))
-      → (Passed (dataChecks s p) → P (record { answer = 0; numbers = 0 ∷ 0 ∷ []; next = accepted s p; output = [] })) → P (arriveData s p)
-  unfolding arriveData
-  data-cases p f g = decide-cases P _ _ (dataChecks s p) f g
+  pub data-cases : (p : Message) → ((a : ℕ) → Refused a (data_checks s p) → P (refusal 2 (cond (among a (9 ∷ 10 ∷ 12 ∷ [])) (noted s p) s) [] a))
+      → (Passed (data_checks s p) → P (record { answer = 0; numbers = 0 ∷ 0 ∷ []; next = accepted s p; output = [] })) → P (arrive_data s p)
+  unfolding arrive_data
+  data-cases p f g = decide-cases P _ _ (data_checks s p) f g
 
-  pub request-cases : (r : Request) → ((a : ℕ) → Refused a (requestChecks s r) → P (refusal 2 s [] a))
-      → (Passed (requestChecks s r) → P (record { answer = 0; numbers = resentFrom s r ∷ (resentTo s r - 1) ∷ []; next = s; output = [] }))
-      → P (arriveRequest s r)
-  unfolding arriveRequest
-  request-cases r f g = decide-cases P _ _ (requestChecks s r) f g
+  pub request-cases : (r : Request) → ((a : ℕ) → Refused a (request_checks s r) → P (refusal 2 s [] a))
+      → (Passed (request_checks s r) → P (record { answer = 0; numbers = resent_from s r ∷ (resent_to s r - 1) ∷ []; next = s; output = [] }))
+      → P (arrive_request s r)
+  unfolding arrive_request
+  request-cases r f g = decide-cases P _ _ (request_checks s r) f g
 
-  pub make-cases : (k : ℕ) (out : List ℕ) → ((a : ℕ) → Refused a (makeChecks s k out) → P (refusal 1 s out a))
-      → (Passed (makeChecks s k out)
+  pub make-cases : (k : ℕ) (out : List ℕ) → ((a : ℕ) → Refused a (make_checks s k out) → P (refusal 1 s out a))
+      → (Passed (make_checks s k out)
       → let f = encode (request (asking s k)) in
       P (record { answer = 0; numbers = length f ∷ []; next = s; output = written out f }))
-      → P (makeRequest s k out)
-  unfolding makeRequest
-  make-cases k out f g = decide-cases P _ _ (makeChecks s k out) f g
+      → P (make_request s k out)
+  unfolding make_request
+  make-cases k out f g = decide-cases P _ _ (make_checks s k out) f g
 
-  pub copy-cases : (x : ℕ) (out : List ℕ) → ((a : ℕ) → Refused a (copyChecks s x out) → P (refusal 1 s out a))
-      → (Passed (copyChecks s x out) → P (record { answer = 0; numbers = length (s.kept x) ∷ []; next = s; output = written out (s.kept x) }))
+  pub copy-cases : (x : ℕ) (out : List ℕ) → ((a : ℕ) → Refused a (copy_checks s x out) → P (refusal 1 s out a))
+      → (Passed (copy_checks s x out) → P (record { answer = 0; numbers = length (s.kept x) ∷ []; next = s; output = written out (s.kept x) }))
       → P (copy s x out)
   unfolding copy
-  copy-cases x out f g = decide-cases P _ _ (copyChecks s x out) f g
+  copy-cases x out f g = decide-cases P _ _ (copy_checks s x out) f g
 
-  pub take_cases : (out : List ℕ) → ((a : ℕ) → Refused a (takeChecks s out) → P (refusal 3 s out a))
-      → (Passed (takeChecks s out)
+  pub take_cases : (out : List ℕ) → ((a : ℕ) → Refused a (take_checks s out) → P (refusal 3 s out a))
+      → (Passed (take_checks s out)
       → let p = oldest s in
-      P (record { answer = 0; numbers = p.src ∷ p.seq ∷ length p.text ∷ []; next = withoutTaken s; output = written out p.text }))
+      P (record { answer = 0; numbers = p.src ∷ p.seq ∷ length p.text ∷ []; next = without_taken s; output = written out p.text }))
       → P (take s out)
   unfolding take
-  take_cases out f g = decide-cases P _ _ (takeChecks s out) f g
+  take_cases out f g = decide-cases P _ _ (take_checks s out) f g

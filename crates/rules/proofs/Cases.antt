@@ -5,12 +5,12 @@ use mathlib.Core.Option.{Option, none, some}
 use Prim.Native.Nat.{ℕ}
 use lib.ListN.{length, take, replicate}
 use Rattle.rules.specs.Maps.{between, upd, column, units, at, listed}
-use Rattle.rules.specs.Fields.{table, row_of, tagsOf, fieldFits}
-use Rattle.rules.specs.Message.{Said, message, request, encode, decode, inLimits, readAs}
-use Rattle.rules.specs.State.{Place, State, minAL, minPAL, from, free, opened, closed}
-use Rattle.rules.specs.Steps.{window, maySend, outgoing, known, freeSlot, placed, stored, noted, isKept, resentFrom, precedes, preacked, preackOf, moved, confirm, accepted, sent}
-use Rattle.rules.specs.Sound.{rangesFit, nextsFit, windowFits, placeFits, keptFit, sound}
-use Rattle.rules.specs.Calls.{Result, full, foreign, openChecks, opening, sendChecks, send, dataChecks, arriveData, requestChecks, arriveRequest, arrive}
+use Rattle.rules.specs.Fields.{table, row_of, tags_of, field_fits}
+use Rattle.rules.specs.Message.{Said, message, request, encode, decode, in_limits, read_as}
+use Rattle.rules.specs.State.{Place, State, min_al, min_pal, from, free, opened, closed}
+use Rattle.rules.specs.Steps.{window, may_send, outgoing, known, free_slot, placed, stored, noted, is_kept, resent_from, precedes, preacked, preack_of, moved, confirm, accepted, sent}
+use Rattle.rules.specs.Sound.{ranges_fit, nexts_fit, window_fits, place_fits, kept_fit, sound}
+use Rattle.rules.specs.Calls.{Result, full, foreign, open_checks, opening, send_checks, send, data_checks, arrive_data, request_checks, arrive_request, arrive}
 
 -- ---- a unit at work
 
@@ -32,13 +32,13 @@ answers s [] = []
 answers s (a ∷ l) = (does s a).answer ∷ answers (does s a).next l
 
 -- SEQ and ACK of each message sent, read off the frame written
-abbrev seqAndAck : Option Said → List (List ℕ)
-seqAndAck none = []
-seqAndAck (some (message m)) = (m.seq ∷ m.ack) ∷ []
-seqAndAck (some (request r)) = []
+abbrev seq_and_ack : Option Said → List (List ℕ)
+seq_and_ack none = []
+seq_and_ack (some (message m)) = (m.seq ∷ m.ack) ∷ []
+seq_and_ack (some (request r)) = []
 
 abbrev wrote : Act → Result → List (List ℕ)
-wrote sends r = seqAndAck (decode (take (at r.numbers 2) r.output))
+wrote sends r = seq_and_ack (decode (take (at r.numbers 2) r.output))
 wrote (hears x) r = []
 
 writes : State → List Act → List (List ℕ)
@@ -74,8 +74,8 @@ openings : Case
 openings =
     record { computed = three (opens 1 2) (opens 2 2) (opens 2 5) ∷ []; stated = three 2 0 2 ∷ [] }
 
-bytesWith : ℕ → ℕ → ℕ
-bytesWith n d =
+bytes_with : ℕ → ℕ → ℕ
+bytes_with n d =
     length
     (encode
     (message (record { cid = 7; src = 1; seq = 1; ack = replicate n 1; buf = 8; text = replicate d 0 })))
@@ -83,7 +83,7 @@ bytesWith n d =
 sizes : Case
 sizes =
     record {
-      computed = three (bytesWith 2 0) (bytesWith 8 48) (arrive (fresh 1 2 2 1) []).answer ∷ [];
+      computed = three (bytes_with 2 0) (bytes_with 8 48) (arrive (fresh 1 2 2 1) []).answer ∷ [];
       stated = three 45 117 3 ∷ [];
     }
 
@@ -185,9 +185,9 @@ cases = openings ∷ sizes ∷ early ∷ gap-and-early ∷ last-number ∷ range
 
 pub cases-hold : map (λ (c : Case). c.computed) cases ≡ map (λ (c : Case). c.stated) cases
 unfolding does after answers writes fresh said three names
-    opens openings bytesWith sizes p-of-1 r-of-2 early gap-and-early last-number asked ranges to-d to-h unit-1 after-d own-sends after-h cases
-    between upd column units table row_of tagsOf fieldFits encode decode inLimits readAs minAL minPAL from free opened closed
-    window maySend outgoing known freeSlot placed stored noted isKept resentFrom precedes preacked preackOf moved confirm accepted sent
-    rangesFit nextsFit windowFits placeFits keptFit sound
-    full foreign openChecks opening sendChecks send dataChecks arriveData requestChecks arriveRequest arrive
+    opens openings bytes_with sizes p-of-1 r-of-2 early gap-and-early last-number asked ranges to-d to-h unit-1 after-d own-sends after-h cases
+    between upd column units table row_of tags_of field_fits encode decode in_limits read_as min_al min_pal from free opened closed
+    window may_send outgoing known free_slot placed stored noted is_kept resent_from precedes preacked preack_of moved confirm accepted sent
+    ranges_fit nexts_fit window_fits place_fits kept_fit sound
+    full foreign open_checks opening send_checks send data_checks arrive_data request_checks arrive_request arrive
 cases-hold = refl

@@ -10,9 +10,9 @@ use borrow.Author.Tests.{le-ltb, not-false}
 use Rattle.rules.specs.Maps.{at}
 use Rattle.rules.specs.Message.{message, encode}
 use Rattle.rules.specs.State.{State}
-use Rattle.rules.specs.Steps.{outgoing, isKept}
+use Rattle.rules.specs.Steps.{outgoing, is_kept}
 use Rattle.rules.specs.Sound.{sound}
-use Rattle.rules.specs.Calls.{Result, written, sendChecks, send, copyChecks, copy, Call, sends, call}
+use Rattle.rules.specs.Calls.{Result, written, send_checks, send, copy_checks, copy, Call, sends, call}
 use Rattle.rules.proofs.CallsLaws.{send-cases}
 use Rattle.rules.proofs.ChecksLaws.{refused-above}
 use Rattle.rules.proofs.SoundLaws.{sound-facts}
@@ -22,9 +22,9 @@ use Rattle.rules.proofs.KeptLaws.{Keeps, keeps-refl, keeps-trans, Adds, sent-add
 -- ---- copying out from a sound unit
 
 module _ (s : State) (x : ℕ) (out : List ℕ) (h : sound s ≡ true) where
-  pub copy-kept : isKept s x ≡ true → length (s.kept x) ≤ length out
+  pub copy-kept : is_kept s x ≡ true → length (s.kept x) ≤ length out
       → copy s x out ≡ record { answer = 0; numbers = length (s.kept x) ∷ []; next = s; output = written out (s.kept x) }
-  unfolding copy copyChecks
+  unfolding copy copy_checks
   copy-kept k room = rw (h, k, le-ltb (length out) (length (s.kept x)) room)
 
 -- ---- any calls in turn
@@ -52,7 +52,7 @@ pub record Wrote (s : State) (d out : List ℕ) (r : Result) : Type 0 where
   pub adds : Adds s r.next (encode (message (outgoing s d)))
 
 pub send-wrote : (s : State) (d out : List ℕ) → (send s d out).answer ≡ 0 → Wrote s d out (send s d out)
-unfolding sendChecks
+unfolding send_checks
 send-wrote s d out =
     send-cases s (λ r. r.answer ≡ 0 → Wrote s d out r) d out (λ a r e. absurd (omega (arith, refused-above 0 r refl)))
     (λ h e.
@@ -70,7 +70,7 @@ pub record SameBytes (sending copying : Result) (room : List ℕ) : Type 0 where
 pub copied-out : (s : State) (d out : List ℕ) (cs : List Call) (room : List ℕ)
     → let r = send s d out in
     let t = after r.next cs in
-    r.answer ≡ 0 → isKept t s.seq ≡ true → at r.numbers 2 ≤ length room → SameBytes r (copy t s.seq room) room
+    r.answer ≡ 0 → is_kept t s.seq ≡ true → at r.numbers 2 ≤ length room → SameBytes r (copy t s.seq room) room
 copied-out s d out cs room e k long =
     record {
       answer = ap (λ (q : Result). q.answer) same;

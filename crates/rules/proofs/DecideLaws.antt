@@ -10,20 +10,20 @@ use Rattle.rules.specs.Maps.{all}
 use Rattle.rules.specs.Calls.{Check, decide, answer_of}
 use Rattle.rules.proofs.MapsLaws.{and_left, and_right}
 use Rattle.rules.proofs.CallsLaws.{Passed, Refused, now, later}
-use Rattle.rules.proofs.ChecksLaws.{answersOf}
+use Rattle.rules.proofs.ChecksLaws.{answers_of}
 
 -- where no check answers 0
-pub decide-answer : {A : Type 0} (refused : ℕ → A) (done : A) (l : List Check) → all (λ x. ltb 0 x) (answersOf l) ≡ true
+pub decide-answer : {A : Type 0} (refused : ℕ → A) (done : A) (l : List Check) → all (λ x. ltb 0 x) (answers_of l) ≡ true
     → cond (eqb (answer_of l) 0) done (refused (answer_of l)) ≡ decide l refused done
 decide-answer refused done [] h = refl
 decide-answer refused done (c ∷ l) h =
-    go c.holds (decide-answer refused done l (and_right (ltb 0 c.answer) (all (λ x. ltb 0 x) (answersOf l)) h))
+    go c.holds (decide-answer refused done l (and_right (ltb 0 c.answer) (all (λ x. ltb 0 x) (answers_of l)) h))
   where
     go : (t : Bool) → cond (eqb (answer_of l) 0) done (refused (answer_of l)) ≡ decide l refused done
         → cond (eqb (cond t c.answer (answer_of l)) 0) done (refused (cond t c.answer (answer_of l))) ≡ cond t (refused c.answer) (decide l refused done)
     go false e = e
     go true e =
-        rw (ne_eqb c.answer 0 (λ z. omega (arith, ltb-true 0 c.answer (and_left (ltb 0 c.answer) (all (λ x. ltb 0 x) (answersOf l)) h))))
+        rw (ne_eqb c.answer 0 (λ z. omega (arith, ltb-true 0 c.answer (and_left (ltb 0 c.answer) (all (λ x. ltb 0 x) (answers_of l)) h))))
 
 -- what f makes of each way to decide
 pub decide-map : {A B : Type 0} (f : A → B) (refused : ℕ → A) (done : A) (refused' : ℕ → B) (done' : B) (l : List Check)

@@ -12,10 +12,10 @@ use lib.Seq.{length-take-le, drop_at, drop-cons, drop-drop, drop-length}
 use borrow.Author.Tests.{ltb-true, leb-true, eqb-true, le-leb, eq-eqb}
 use Rattle.rules.specs.Maps.{all, among}
 use Rattle.rules.specs.Bytes.{bytes, all_bytes}
-use Rattle.rules.specs.Fields.{Row, no_row, row_of, tagsFrom, field, print, length_of, fieldFits, fits, firstNumbers, numbers}
+use Rattle.rules.specs.Fields.{Row, no_row, row_of, tags_from, field, print, length_of, field_fits, fits, first_numbers, numbers}
 use Rattle.rules.specs.Lawful.{nil, cons, Bytes, Content, Contents}
 use Rattle.rules.proofs.MapsLaws.{and_left, and_right, and_both}
-use Rattle.rules.proofs.BytesLaws.{each-head, each_tail, each-++, each_take, each-drop, each-bytes, each-allBytes, number-bytes, bytes-number, length-allBytes, length-allNumbers, each-allNumbers, allNumbers-allBytes, allBytes-allNumbers}
+use Rattle.rules.proofs.BytesLaws.{each-head, each_tail, each-++, each_take, each-drop, each-bytes, each-all_bytes, number-bytes, bytes-number, length-all_bytes, length-all_numbers, each-all_numbers, all_numbers-all_bytes, all_bytes-all_numbers}
 
 -- ---- the table
 
@@ -25,52 +25,52 @@ all_get_d p d (r ∷ rs) h zero = and_left (p r) (all p rs) h
 all_get_d p d (r ∷ rs) h (suc i) = all_get_d p d rs (and_right (p r) (all p rs) h) i
 
 -- what the test finds of each line of a table holds of the line of any tag
-pub all-rowOf : (p : Row → Bool) → p no_row ≡ true → (rs : List Row) → all p rs ≡ true → (t : ℕ) → p (row_of rs t) ≡ true
+pub all-row_of : (p : Row → Bool) → p no_row ≡ true → (rs : List Row) → all p rs ≡ true → (t : ℕ) → p (row_of rs t) ≡ true
 unfolding row_of
-all-rowOf p d rs h zero = d
-all-rowOf p d rs h (suc i) = all_get_d p d rs h i
+all-row_of p d rs h zero = d
+all-row_of p d rs h (suc i) = all_get_d p d rs h i
 
 -- the line of a tag from 1 on, counted from 0
-pub rowOf-line : (rs : List Row) (t : ℕ) → 1 ≤ t → row_of rs t ≡ get_or rs (t - 1) no_row
+pub row_of-line : (rs : List Row) (t : ℕ) → 1 ≤ t → row_of rs t ≡ get_or rs (t - 1) no_row
 unfolding row_of
-rowOf-line rs zero h = absurd (omega arith)
-rowOf-line rs (suc i) h = ap (λ x. get_or rs x no_row) (let e : i ≡ suc i - 1 = omega arith in e)
+row_of-line rs zero h = absurd (omega arith)
+row_of-line rs (suc i) h = ap (λ x. get_or rs x no_row) (let e : i ≡ suc i - 1 = omega arith in e)
 
 -- the test of a table: each width is not 0, and each length fits two bytes
-abbrev usableRow : Row → Bool
-usableRow r = ltb 0 r.width && ltb r.greatest 65536
+abbrev usable_row : Row → Bool
+usable_row r = ltb 0 r.width && ltb r.greatest 65536
 
 abbrev pub usable : List Row → Bool
-usable rs = all usableRow rs
+usable rs = all usable_row rs
 
 pub record Usable (r : Row) : Type 0 where
   pub width : 0 < r.width
   pub short : r.greatest < 65536
 
-pub usable-rowOf : (rs : List Row) → usable rs ≡ true → (t : ℕ) → Usable (row_of rs t)
-usable-rowOf rs u t =
-    let k = and_both _ _ (all-rowOf usableRow refl rs u t) in
+pub usable-row_of : (rs : List Row) → usable rs ≡ true → (t : ℕ) → Usable (row_of rs t)
+usable-row_of rs u t =
+    let k = and_both _ _ (all-row_of usable_row refl rs u t) in
     record { width = ltb-true _ _ k.0; short = ltb-true _ _ k.1 }
 
 -- ---- the tags of a kind, one line of the table after the other
 
 -- those from tag t on
-abbrev pub tagsLeft : List Row → ℕ → ℕ → List ℕ
-tagsLeft rs t k = tagsFrom t (drop (t - 1) rs) k
+abbrev pub tags_left : List Row → ℕ → ℕ → List ℕ
+tags_left rs t k = tags_from t (drop (t - 1) rs) k
 
 module _ (rs : List Row) (t k : ℕ) where
-  pub tagsLeft-step : 1 ≤ t → t ≤ length rs
-      → tagsLeft rs t k ≡ cond (among k (row_of rs t).kinds) (t ∷ tagsLeft rs (t + 1) k) (tagsLeft rs (t + 1) k)
-  tagsLeft-step low high =
-      let after : ℕ → ℕ → List ℕ = λ i u. tagsFrom u (drop i rs) k in
+  pub tags_left-step : 1 ≤ t → t ≤ length rs
+      → tags_left rs t k ≡ cond (among k (row_of rs t).kinds) (t ∷ tags_left rs (t + 1) k) (tags_left rs (t + 1) k)
+  tags_left-step low high =
+      let after : ℕ → ℕ → List ℕ = λ i u. tags_from u (drop i rs) k in
       let next : suc t ≡ t + 1 = omega arith in
       let place : suc (t - 1) ≡ t + 1 - 1 = omega arith in
-      ap (λ l. tagsFrom t l k) (drop-cons rs (t - 1) no_row (omega arith))
-      ∙ ap (λ r. cond (among k r.kinds) (t ∷ after (suc (t - 1)) (suc t)) (after (suc (t - 1)) (suc t))) (sym (rowOf-line rs t low))
+      ap (λ l. tags_from t l k) (drop-cons rs (t - 1) no_row (omega arith))
+      ∙ ap (λ r. cond (among k r.kinds) (t ∷ after (suc (t - 1)) (suc t)) (after (suc (t - 1)) (suc t))) (sym (row_of-line rs t low))
       ∙ ap₂ (λ i u. cond (among k (row_of rs t).kinds) (t ∷ after i u) (after i u)) place next
 
-  pub tagsLeft-end : t ≡ length rs + 1 → tagsLeft rs t k ≡ []
-  tagsLeft-end e =
+  pub tags_left-end : t ≡ length rs + 1 → tags_left rs t k ≡ []
+  tags_left-end e =
       let place : t - 1 ≡ length rs = omega arith in
       rw (place, drop-length rs)
 
@@ -86,8 +86,8 @@ pub record IsField (r : Row) (t : ℕ) (l : List ℕ) : Type 0 where
   pub inside : 3 + length_of l ≤ length l
 
 module _ (rs : List Row) (t : ℕ) where
-  pub is_field : (l : List ℕ) → fieldFits rs t l ≡ true → IsField (row_of rs t) t l
-  unfolding fieldFits
+  pub is_field : (l : List ℕ) → field_fits rs t l ≡ true → IsField (row_of rs t) t l
+  unfolding field_fits
   is_field l h =
       let inside = and_both _ _ h in
       let whole = and_both _ _ inside.0 in
@@ -103,30 +103,30 @@ module _ (rs : List Row) (t : ℕ) where
         inside = leb-true _ _ inside.1;
       }
 
-  pub field_is : (l : List ℕ) → IsField (row_of rs t) t l → fieldFits rs t l ≡ true
-  unfolding fieldFits
+  pub field_is : (l : List ℕ) → IsField (row_of rs t) t l → field_fits rs t l ≡ true
+  unfolding field_fits
   field_is l f =
       simp (le-leb 3 (length l) f.long, eq-eqb (get_or l 0 0) t f.tag, le-leb _ _ f.least, le-leb _ _ f.greatest, eq-eqb _ _ f.whole, le-leb _ _ f.inside)
 
 -- ---- a field that was written
 
 module _ (t : ℕ) (c r : List ℕ) (h : length c < 65536) where
-  lengthOf-field : length_of (field t c ++ r) ≡ length c
-  lengthOf-field = number-bytes 2 (length c) h
+  length_of-field : length_of (field t c ++ r) ≡ length c
+  length_of-field = number-bytes 2 (length c) h
 
   drop-field : drop (3 + length_of (field t c ++ r)) (field t c ++ r) ≡ r
-  drop-field = rw lengthOf-field (sym (drop-drop (length c) 3 (field t c ++ r)) ∙ drop_at c r (length c) refl)
+  drop-field = rw length_of-field (sym (drop-drop (length c) 3 (field t c ++ r)) ∙ drop_at c r (length c) refl)
 
 module _ (rs : List Row) (u : usable rs ≡ true) (t : ℕ) (v r : List ℕ) (k : Content (row_of rs t) v) where
   abbrev w : ℕ
   w = (row_of rs t).width
 
   fits-two : length (all_bytes w v) < 65536
-  fits-two = omega (arith, length-allBytes w v, k.greatest, (usable-rowOf rs u t).short)
+  fits-two = omega (arith, length-all_bytes w v, k.greatest, (usable-row_of rs u t).short)
 
-  fieldFits-field : fieldFits rs t (field t (all_bytes w v) ++ r) ≡ true
-  fieldFits-field =
-      let e : length_of (field t (all_bytes w v) ++ r) ≡ w * length v = lengthOf-field t (all_bytes w v) r fits-two ∙ length-allBytes w v in
+  field_fits-field : field_fits rs t (field t (all_bytes w v) ++ r) ≡ true
+  field_fits-field =
+      let e : length_of (field t (all_bytes w v) ++ r) ≡ w * length v = length_of-field t (all_bytes w v) r fits-two ∙ length-all_bytes w v in
       field_is rs t (field t (all_bytes w v) ++ r)
       (record {
         long = omega arith;
@@ -134,13 +134,13 @@ module _ (rs : List Row) (u : usable rs ≡ true) (t : ℕ) (v r : List ℕ) (k 
         least = rw e k.least;
         greatest = rw e k.greatest;
         whole = rw e (mul-mod_right w (length v));
-        inside = rw (e, length-append, length-allBytes) (omega arith);
+        inside = rw (e, length-append, length-all_bytes) (omega arith);
       })
 
-  firstNumbers-field : firstNumbers rs t (field t (all_bytes w v) ++ r) ≡ v
-  firstNumbers-field =
-      let e : length_of (field t (all_bytes w v) ++ r) ≡ w * length v = lengthOf-field t (all_bytes w v) r fits-two ∙ length-allBytes w v in
-      rw (e, mul-div_right (length v) (usable-rowOf rs u t).width) (allNumbers-allBytes w v r k.each)
+  first_numbers-field : first_numbers rs t (field t (all_bytes w v) ++ r) ≡ v
+  first_numbers-field =
+      let e : length_of (field t (all_bytes w v) ++ r) ≡ w * length v = length_of-field t (all_bytes w v) r fits-two ∙ length-all_bytes w v in
+      rw (e, mul-div_right (length v) (usable-row_of rs u t).width) (all_numbers-all_bytes w v r k.each)
 
 -- ---- a field that was read
 
@@ -158,12 +158,12 @@ module _ (rs : List Row) (u : usable rs ≡ true) (t : ℕ) (l : List ℕ) (b : 
   room : width * count ≤ length (drop 3 l)
   room = rw (counted, length-drop) (omega (arith, f.inside))
 
-  content : Content (row_of rs t) (firstNumbers rs t l)
+  content : Content (row_of rs t) (first_numbers rs t l)
   content =
       record {
-        least = rw (length-allNumbers, counted) f.least;
-        greatest = rw (length-allNumbers, counted) f.greatest;
-        each = each-allNumbers width count (drop 3 l) room (each-drop 3 b);
+        least = rw (length-all_numbers, counted) f.least;
+        greatest = rw (length-all_numbers, counted) f.greatest;
+        each = each-all_numbers width count (drop 3 l) room (each-drop 3 b);
       }
 
   split-3 : (l : List ℕ) → 3 ≤ length l → get_or l 0 0 ∷ take 2 (drop 1 l) ++ drop 3 l ≡ l
@@ -172,12 +172,12 @@ module _ (rs : List Row) (u : usable rs ≡ true) (t : ℕ) (l : List ℕ) (b : 
   split-3 (x ∷ y ∷ []) h = absurd (omega arith)
   split-3 (x ∷ y ∷ z ∷ r) h = refl
 
-  field-firstNumbers : field t (all_bytes width (firstNumbers rs t l)) ++ drop (3 + length_of l) l ≡ l
-  field-firstNumbers =
+  field-first_numbers : field t (all_bytes width (first_numbers rs t l)) ++ drop (3 + length_of l) l ≡ l
+  field-first_numbers =
       let n = length_of l in
       let front = take 2 (drop 1 l) in
-      let content-is : all_bytes width (firstNumbers rs t l) ≡ take n (drop 3 l) =
-      allBytes-allNumbers width count (drop 3 l) room (each-drop 3 b) ∙ ap (λ k. take k (drop 3 l)) counted in
+      let content-is : all_bytes width (first_numbers rs t l) ≡ take n (drop 3 l) =
+      all_bytes-all_numbers width count (drop 3 l) room (each-drop 3 b) ∙ ap (λ k. take k (drop 3 l)) counted in
       let long : length (take n (drop 3 l)) ≡ n = length-take-le n (drop 3 l) (rw length-drop (omega (arith, f.inside))) in
       let two : length front ≡ 2 = length-take-le 2 (drop 1 l) (rw length-drop (omega (arith, f.long))) in
       let length-is : bytes 2 n ≡ front = subst (λ k. bytes k n ≡ front) two (bytes-number front (each_take 2 (each-drop 1 b))) in
@@ -201,14 +201,14 @@ module _ (rs : List Row) (u : usable rs ≡ true) where
   fits-print [] (v ∷ vs) k = absurd k
   fits-print (t ∷ ts) [] k = absurd k
   fits-print (t ∷ ts) (v ∷ vs) k =
-      rw (fieldFits-field rs u t v (print rs ts vs) k.0, drop-written t v (print rs ts vs) k.0) (fits-print ts vs k.1)
+      rw (field_fits-field rs u t v (print rs ts vs) k.0, drop-written t v (print rs ts vs) k.0) (fits-print ts vs k.1)
 
   pub numbers-print : (ts : List ℕ) (vs : List (List ℕ)) → Contents rs ts vs → numbers rs ts (print rs ts vs) ≡ vs
   numbers-print [] [] k = refl
   numbers-print [] (v ∷ vs) k = absurd k
   numbers-print (t ∷ ts) [] k = absurd k
   numbers-print (t ∷ ts) (v ∷ vs) k =
-      rw (firstNumbers-field rs u t v (print rs ts vs) k.0, drop-written t v (print rs ts vs) k.0, numbers-print ts vs k.1)
+      rw (first_numbers-field rs u t v (print rs ts vs) k.0, drop-written t v (print rs ts vs) k.0, numbers-print ts vs k.1)
 
   pub print-numbers : (ts l : List ℕ) → Bytes l → fits rs ts l ≡ true → print rs ts (numbers rs ts l) ≡ l
   print-numbers [] [] b h = refl
@@ -216,7 +216,7 @@ module _ (rs : List Row) (u : usable rs ≡ true) where
   print-numbers (t ∷ ts) l b h =
       let k = and_both _ _ h in
       rw (print-numbers ts (drop (3 + length_of l) l) (each-drop (3 + length_of l) b) k.1)
-      (field-firstNumbers rs u t l b (is_field rs t l k.0))
+      (field-first_numbers rs u t l b (is_field rs t l k.0))
 
   pub contents-numbers : (ts l : List ℕ) → Bytes l → fits rs ts l ≡ true → Contents rs ts (numbers rs ts l)
   contents-numbers [] l b h = tt
@@ -230,10 +230,10 @@ module _ (rs : List Row) (u : usable rs ≡ true) where
 abbrev pub alone : Row → List ℕ → List ℕ
 alone r v = cond (eqb r.least r.width && eqb r.greatest r.width) (get_or v 0 0 ∷ []) v
 
-abbrev pub allAlone : List Row → List ℕ → List (List ℕ) → List (List ℕ)
-allAlone rs [] vs = []
-allAlone rs (t ∷ ts) [] = []
-allAlone rs (t ∷ ts) (v ∷ vs) = alone (row_of rs t) v ∷ allAlone rs ts vs
+abbrev pub all_alone : List Row → List ℕ → List (List ℕ) → List (List ℕ)
+all_alone rs [] vs = []
+all_alone rs (t ∷ ts) [] = []
+all_alone rs (t ∷ ts) (v ∷ vs) = alone (row_of rs t) v ∷ all_alone rs ts vs
 
 single : (v : List ℕ) → length v ≡ 1 → get_or v 0 0 ∷ [] ≡ v
 single [] h = absurd (omega arith)
@@ -253,11 +253,11 @@ alone-is r u v k = go (eqb r.least r.width && eqb r.greatest r.width) refl
         single v (eq_of_mul-eq-mul_left r.width u.width (length v) 1 all)
 
 module _ (rs : List Row) (u : usable rs ≡ true) where
-  pub allAlone-is : (ts : List ℕ) (vs : List (List ℕ)) → Contents rs ts vs → allAlone rs ts vs ≡ vs
-  allAlone-is [] [] k = refl
-  allAlone-is [] (v ∷ vs) k = absurd k
-  allAlone-is (t ∷ ts) [] k = absurd k
-  allAlone-is (t ∷ ts) (v ∷ vs) k = ap₂ ◌∷◌ (alone-is (row_of rs t) (usable-rowOf rs u t) v k.0) (allAlone-is ts vs k.1)
+  pub all_alone-is : (ts : List ℕ) (vs : List (List ℕ)) → Contents rs ts vs → all_alone rs ts vs ≡ vs
+  all_alone-is [] [] k = refl
+  all_alone-is [] (v ∷ vs) k = absurd k
+  all_alone-is (t ∷ ts) [] k = absurd k
+  all_alone-is (t ∷ ts) (v ∷ vs) k = ap₂ ◌∷◌ (alone-is (row_of rs t) (usable-row_of rs u t) v k.0) (all_alone-is ts vs k.1)
 
 -- ---- the bytes of the fields, and how many
 
@@ -271,13 +271,13 @@ length-print rs [] vs = refl
 length-print rs (t ∷ ts) [] = refl
 length-print rs (t ∷ ts) (v ∷ vs) =
     let w = (row_of rs t).width in
-    omega (arith, length-append (all_bytes w v) (print rs ts vs), length-allBytes w v, length-print rs ts vs)
+    omega (arith, length-append (all_bytes w v) (print rs ts vs), length-all_bytes w v, length-print rs ts vs)
 
-pub each-tagsFrom : (t : ℕ) (rs : List Row) (k : ℕ) → t + length rs ≤ 256 → Bytes (tagsFrom t rs k)
-each-tagsFrom t [] k h = nil
-each-tagsFrom t (r ∷ rs) k h = go (among k r.kinds) (each-tagsFrom (suc t) rs k (omega arith))
+pub each-tags_from : (t : ℕ) (rs : List Row) (k : ℕ) → t + length rs ≤ 256 → Bytes (tags_from t rs k)
+each-tags_from t [] k h = nil
+each-tags_from t (r ∷ rs) k h = go (among k r.kinds) (each-tags_from (suc t) rs k (omega arith))
   where
-    go : (b : Bool) → Bytes (tagsFrom (suc t) rs k) → Bytes (cond b (t ∷ tagsFrom (suc t) rs k) (tagsFrom (suc t) rs k))
+    go : (b : Bool) → Bytes (tags_from (suc t) rs k) → Bytes (cond b (t ∷ tags_from (suc t) rs k) (tags_from (suc t) rs k))
     go true e = cons {x = t} (omega arith) e
     go false e = e
 
@@ -289,5 +289,5 @@ module _ (rs : List Row) (u : usable rs ≡ true) where
       let w = (row_of rs t).width in
       cons (each-head b)
       (each-++
-      (each-++ (each-bytes 2 (length (all_bytes w v)) (fits-two rs u t v [] k.0)) (each-allBytes w v k.0.each))
+      (each-++ (each-bytes 2 (length (all_bytes w v)) (fits-two rs u t v [] k.0)) (each-all_bytes w v k.0.each))
       (each-print ts vs (each_tail b) k.1))

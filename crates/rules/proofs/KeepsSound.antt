@@ -10,37 +10,37 @@ use lib.Dec.{eqb}
 use borrow.Author.Tests.{le-leb}
 use Rattle.rules.specs.Maps.{all, upd, column, at}
 use Rattle.rules.specs.Message.{Message}
-use Rattle.rules.specs.State.{Place, State, minAL, taken}
-use Rattle.rules.specs.Steps.{placed, stored, noted, withLists, preacked, preackTo, moved, accepted, withoutTaken}
-use Rattle.rules.specs.Sound.{placeFits}
+use Rattle.rules.specs.State.{Place, State, min_al, taken}
+use Rattle.rules.specs.Steps.{placed, stored, noted, with_lists, preacked, preack_to, moved, accepted, without_taken}
+use Rattle.rules.specs.Sound.{place_fits}
 use Rattle.rules.specs.Calls.{full}
 use Rattle.rules.proofs.MapsLaws.{Eq?, same, other, eq?, upd-all, column-all, column-same, least-le, least-glb}
-use Rattle.rules.proofs.StepsLaws.{Due, Ready, preackTo-all, confirm-all}
-use Rattle.rules.proofs.PlacesLaws.{bit, all-mem, mem-all, from-mem, tally, all-tally, tally-preacked, tally-moved, tally-stored, tally-withoutTaken, stands, count}
-use Rattle.rules.proofs.SlotsLaws.{freeSlot-lt, placed-free}
-use Rattle.rules.proofs.SoundLaws.{Ranges, Nexts, Window, Within, Held, Kept, Sound, placeFits-facts, facts-placeFits}
+use Rattle.rules.proofs.StepsLaws.{Due, Ready, preack_to-all, confirm-all}
+use Rattle.rules.proofs.PlacesLaws.{bit, all-mem, mem-all, from-mem, tally, all-tally, tally-preacked, tally-moved, tally-stored, tally-without_taken, stands, count}
+use Rattle.rules.proofs.SlotsLaws.{free_slot-lt, placed-free}
+use Rattle.rules.proofs.SoundLaws.{Ranges, Nexts, Window, Within, Held, Kept, Sound, place_fits-facts, facts-place_fits}
 
 -- ---- the places
 
 -- what each place of a list is, each place of a list with the same counts is
 pub held_same : (s : State) (l r : List Place) → ((f : Place → ℕ) → tally f r ≡ tally f l)
     → ((p : Place) → Memᴰ p l → Held s.n s.w p) → (p : Place) → Memᴰ p r → Held s.n s.w p
-held_same s l r e h p m = placeFits-facts s p (all-mem (placeFits s) every m)
+held_same s l r e h p m = place_fits-facts s p (all-mem (place_fits s) every m)
   where
-    every : all (placeFits s) r ≡ true
+    every : all (place_fits s) r ≡ true
     every =
-        all-tally (placeFits s) r
-        ∙ ap (λ (x : ℕ). eqb x 0) (e (λ q. bit (not (placeFits s q))))
-        ∙ sym (all-tally (placeFits s) l)
-        ∙ mem-all (placeFits s) l (λ q n. facts-placeFits s q (h q n))
+        all-tally (place_fits s) r
+        ∙ ap (λ (x : ℕ). eqb x 0) (e (λ q. bit (not (place_fits s q))))
+        ∙ sym (all-tally (place_fits s) l)
+        ∙ mem-all (place_fits s) l (λ q n. facts-place_fits s q (h q n))
 
 -- ---- settling
 
 -- other lists and another PAL
 relisted : (s : State) (pal : ℕ → ℕ → ℕ) (w o c : List Place) → Sound s
     → ((k j : ℕ) → 1 ≤ k → k ≤ s.n → 1 ≤ j → j ≤ s.n → 0 < pal k j)
-    → ((p : Place) → Memᴰ p (c ++ o ++ w) → Held s.n s.w p) → ((j k : ℕ) → count j k (c ++ o ++ w) ≤ 1) → Sound (withLists s pal w o c)
-unfolding minAL
+    → ((p : Place) → Memᴰ p (c ++ o ++ w) → Held s.n s.w p) → ((j k : ℕ) → count j k (c ++ o ++ w) ≤ 1) → Sound (with_lists s pal w o c)
+unfolding min_al
 relisted s pal w o c f nexts held once =
     record {
       ranges = f.ranges;
@@ -73,8 +73,8 @@ moved-sound s p ps f ready =
 pub settled-sound : (s : State) (p : Message) → Sound (stored s p) → Sound (accepted s p)
 unfolding accepted
 settled-sound s p f =
-    confirm-all Sound (λ t q qs h ready. moved-sound t q qs h ready) (preackTo s.n (stored s p))
-    (preackTo-all Sound (λ j t q qs h due. preacked-sound j t q qs h due) s.n (stored s p) f).0
+    confirm-all Sound (λ t q qs h ready. moved-sound t q qs h ready) (preack_to s.n (stored s p))
+    (preack_to-all Sound (λ j t q qs h due. preacked-sound j t q qs h due) s.n (stored s p) f).0
 
 -- ---- acceptance
 
@@ -89,24 +89,24 @@ pub record Storable (s : State) (p : Message) : Type 0 where
   pub says : Within s.n p.src p.seq p.ack p.text
   pub room : full s p.src ≡ false
   pub own : upd s.req p.src (suc p.seq) s.me ≡ s.seq
-  pub low : minAL s s.me ≤ at p.ack s.me
+  pub low : min_al s s.me ≤ at p.ack s.me
   pub high : at p.ack s.me ≤ s.seq
 
 -- the least of the own row does not fall
-pub minAL-rises : (s : State) (p : Message) → 1 ≤ s.n → minAL s s.me ≤ at p.ack s.me → minAL s s.me ≤ minAL (stored s p) s.me
-unfolding minAL stored
-minAL-rises s p one low =
-    least-glb s.n (column s.al p.src (at p.ack) s.me) (minAL s s.me) one
+pub min_al-rises : (s : State) (p : Message) → 1 ≤ s.n → min_al s s.me ≤ at p.ack s.me → min_al s s.me ≤ min_al (stored s p) s.me
+unfolding min_al stored
+min_al-rises s p one low =
+    least-glb s.n (column s.al p.src (at p.ack) s.me) (min_al s s.me) one
     (λ c a b.
-    column-all s.al p.src (at p.ack) (λ k c z. k ≡ s.me → 1 ≤ c → c ≤ s.n → minAL s s.me ≤ z)
-    (λ k e x y. subst (λ i. minAL s s.me ≤ at p.ack i) (sym e) low)
-    (λ k c d e x y. subst (λ i. minAL s s.me ≤ s.al i c) (sym e) (least-le s.n (s.al s.me) c x y)) s.me c refl a b)
+    column-all s.al p.src (at p.ack) (λ k c z. k ≡ s.me → 1 ≤ c → c ≤ s.n → min_al s s.me ≤ z)
+    (λ k e x y. subst (λ i. min_al s s.me ≤ at p.ack i) (sym e) low)
+    (λ k c d e x y. subst (λ i. min_al s s.me ≤ s.al i c) (sym e) (least-le s.n (s.al s.me) c x y)) s.me c refl a b)
 
 module _ (s : State) (p : Message) (f : Storable s p) where
   -- the place that p takes
   stored-mine : Held s.n s.w (placed s p)
   unfolding placed
-  stored-mine = record { slot = freeSlot-lt s p.src f.room; says = f.says }
+  stored-mine = record { slot = free_slot-lt s p.src f.room; says = f.says }
 
   stored-held : (q : Place) → Memᴰ q (taken (stored s p)) → Held s.n s.w q
   stored-held = held_same s (placed s p ∷ taken s) (taken (stored s p)) (λ g. tally-stored g s p) (λ q m. go q (Memᴰ.cases_cons m))
@@ -138,11 +138,11 @@ module _ (s : State) (p : Message) (f : Storable s p) where
         pal = f.nexts.pal;
       }
 
-  stored-rises : minAL s s.me ≤ minAL (stored s p) s.me
-  stored-rises = minAL-rises s p (omega (arith, f.ranges.n-low)) f.low
+  stored-rises : min_al s s.me ≤ min_al (stored s p) s.me
+  stored-rises = min_al-rises s p (omega (arith, f.ranges.n-low)) f.low
 
   stored-window : Window (stored s p)
-  unfolding stored minAL
+  unfolding stored min_al
   stored-window =
       record {
         low =
@@ -156,7 +156,7 @@ module _ (s : State) (p : Message) (f : Storable s p) where
       }
 
   stored-kept : Kept (stored s p)
-  unfolding stored minAL
+  unfolding stored min_al
   stored-kept =
       record {
         short = λ x a b. rw (le-leb _ x a) (f.kept.short x (omega (arith, stored-rises)) b);
@@ -173,15 +173,15 @@ accepted-sound s p f = settled-sound s p (stored-sound s p f)
 
 -- ---- take, and what is noted
 
-pub withoutTaken-sound : (s : State) (p : Place) (ps : List Place) → s.confirmed ≡ p ∷ ps → Sound s → Sound (withoutTaken s)
-unfolding withoutTaken
-withoutTaken-sound s p ps e f =
+pub without_taken-sound : (s : State) (p : Place) (ps : List Place) → s.confirmed ≡ p ∷ ps → Sound s → Sound (without_taken s)
+unfolding without_taken
+without_taken-sound s p ps e f =
     relisted s _ _ _ _ f f.nexts.pal
-    (λ q m. held_same s (taken s) (p ∷ taken (withoutTaken s)) (λ g. tally-withoutTaken g s p ps e) f.held q (Memᴰ.tail m))
-    (λ j k. omega (arith, tally-withoutTaken (λ q. bit (stands j k q)) s p ps e, f.once j k))
+    (λ q m. held_same s (taken s) (p ∷ taken (without_taken s)) (λ g. tally-without_taken g s p ps e) f.held q (Memᴰ.tail m))
+    (λ j k. omega (arith, tally-without_taken (λ q. bit (stands j k q)) s p ps e, f.once j k))
 
 pub noted-sound : (s : State) (p : Message) → Sound s → Sound (noted s p)
-unfolding noted minAL
+unfolding noted min_al
 noted-sound s p f =
     record {
       ranges = f.ranges;

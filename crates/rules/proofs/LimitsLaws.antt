@@ -9,13 +9,13 @@ use native.Mathlib.Omega.{arith}
 use lib.ListN.{length, get_or, drop}
 use borrow.Author.Tests.{ltb-true}
 use Rattle.rules.specs.Maps.{at}
-use Rattle.rules.specs.Fields.{Row, table, row_of, tagsOf, length_of, fieldFits, fits, numbers}
-use Rattle.rules.specs.Message.{Message, Said, message, request, last, inLimits, asMessage, asRequest, readAs, or_else, decode}
+use Rattle.rules.specs.Fields.{Row, table, row_of, tags_of, length_of, field_fits, fits, numbers}
+use Rattle.rules.specs.Message.{Message, Said, message, request, last, in_limits, as_message, as_request, read_as, or_else, decode}
 use Rattle.rules.proofs.MapsLaws.{and_left, and_right}
-use Rattle.rules.proofs.BytesLaws.{length-allNumbers}
+use Rattle.rules.proofs.BytesLaws.{length-all_numbers}
 use Rattle.rules.proofs.FieldsLaws.{is_field}
 use Rattle.rules.proofs.MessageLaws.{Read, read}
-use Rattle.rules.proofs.SoundLaws.{noZero-at}
+use Rattle.rules.proofs.SoundLaws.{no_zero-at}
 
 pub record Limits (p : Message) : Type 0 where
   pub seq-low : 0 < p.seq
@@ -28,38 +28,38 @@ numbers-most : (rs : List Row) (ts l : List ℕ) → fits rs ts l ≡ true → (
     → (row_of rs (get_or ts i 0)).width * length (get_or (numbers rs ts l) i []) ≤ (row_of rs (get_or ts i 0)).greatest
 numbers-most rs [] l h i x = absurd (omega arith)
 numbers-most rs (t ∷ ts) l h zero x =
-    let f = is_field rs t l (and_left (fieldFits rs t l) (fits rs ts (drop (3 + length_of l) l)) h) in
+    let f = is_field rs t l (and_left (field_fits rs t l) (fits rs ts (drop (3 + length_of l) l)) h) in
     let r = row_of rs t in
-    rw (length-allNumbers r.width (length_of l / r.width) (drop 3 l)) (omega (arith, mul-div-le (length_of l) r.width, f.greatest))
+    rw (length-all_numbers r.width (length_of l / r.width) (drop 3 l)) (omega (arith, mul-div-le (length_of l) r.width, f.greatest))
 numbers-most rs (t ∷ ts) l h (suc i) x =
     let rest = drop (3 + length_of l) l in
-    numbers-most rs ts rest (and_right (fieldFits rs t l) (fits rs ts rest) h) i (omega arith)
+    numbers-most rs ts rest (and_right (field_fits rs t l) (fits rs ts rest) h) i (omega arith)
 
 abbrev text_of : Said → List ℕ
 text_of (message m) = m.text
 text_of (request r) = []
 
 module _ (l : List ℕ) (p : Message) where
-  read-message : decode l ≡ some (message p) → Read 1 asMessage l (message p)
+  read-message : decode l ≡ some (message p) → Read 1 as_message l (message p)
   unfolding decode
-  read-message e = go (readAs 1 asMessage l) refl e
+  read-message e = go (read_as 1 as_message l) refl e
     where
-      go : (o : Option Said) → readAs 1 asMessage l ≡ o → or_else o (readAs 2 asRequest l) ≡ some (message p) → Read 1 asMessage l (message p)
-      go (some y) x h = read 1 asMessage l (message p) (x ∙ h)
+      go : (o : Option Said) → read_as 1 as_message l ≡ o → or_else o (read_as 2 as_request l) ≡ some (message p) → Read 1 as_message l (message p)
+      go (some y) x h = read 1 as_message l (message p) (x ∙ h)
       go none x h =
-          let r = read 2 asRequest l (message p) h in
+          let r = read 2 as_request l (message p) h in
           let z : ◌≡◌ {A = ℕ} 0 1 = cc r.same in
           absurd (omega arith)
 
   pub decode-limits : decode l ≡ some (message p) → Limits p
-  unfolding inLimits table tagsOf row_of
+  unfolding in_limits table tags_of row_of
   decode-limits e =
       let r = read-message e in
-      let limits : inLimits (message p) ≡ true = subst (λ (x : Said). inLimits x ≡ true) r.same r.limits in
-      let text : get_or (numbers table (tagsOf table 1) l) 7 [] ≡ p.text = ap text_of r.same in
+      let limits : in_limits (message p) ≡ true = subst (λ (x : Said). in_limits x ≡ true) r.same r.limits in
+      let text : get_or (numbers table (tags_of table 1) l) 7 [] ≡ p.text = ap text_of r.same in
       record {
         seq-low = ltb-true 0 p.seq (search (and_left, and_right));
         seq-high = ltb-true p.seq last (search (and_left, and_right));
-        acks = noZero-at p.ack (search (and_left, and_right));
-        short = omega (arith, ap length text, numbers-most table (tagsOf table 1) l r.fit 7 (omega arith));
+        acks = no_zero-at p.ack (search (and_left, and_right));
+        short = omega (arith, ap length text, numbers-most table (tags_of table 1) l r.fit 7 (omega arith));
       }

@@ -162,14 +162,14 @@ pub length-listed : (a m : ℕ) (f : ℕ → ℕ) → length (listed a m f) ≡ 
 length-listed a zero f = refl
 length-listed a (suc m) f = ap suc (length-listed (suc a) m f)
 
-pub getD-listed : (a m : ℕ) (f : ℕ → ℕ) (i : ℕ) → i < m → get_or (listed a m f) i 0 ≡ f (a + i)
-getD-listed a zero f i h = absurd (omega arith)
-getD-listed a (suc m) f zero h = ap f (let e : a ≡ a + 0 = omega arith in e)
-getD-listed a (suc m) f (suc i) h = getD-listed (suc a) m f i (omega arith) ∙ ap f (let e : suc a + i ≡ a + suc i = omega arith in e)
+pub get_or-listed : (a m : ℕ) (f : ℕ → ℕ) (i : ℕ) → i < m → get_or (listed a m f) i 0 ≡ f (a + i)
+get_or-listed a zero f i h = absurd (omega arith)
+get_or-listed a (suc m) f zero h = ap f (let e : a ≡ a + 0 = omega arith in e)
+get_or-listed a (suc m) f (suc i) h = get_or-listed (suc a) m f i (omega arith) ∙ ap f (let e : suc a + i ≡ a + suc i = omega arith in e)
 
 pub at_listed : (m : ℕ) (f : ℕ → ℕ) (k : ℕ) → 1 ≤ k → k ≤ m → at (listed 1 m f) k ≡ f k
 at_listed m f zero a b = absurd (omega arith)
-at_listed m f (suc k) a b = getD-listed 1 m f k (omega arith) ∙ ap f (let e : 1 + k ≡ suc k = omega arith in e)
+at_listed m f (suc k) a b = get_or-listed 1 m f k (omega arith) ∙ ap f (let e : 1 + k ≡ suc k = omega arith in e)
 
 -- ---- all
 

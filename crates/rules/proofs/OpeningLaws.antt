@@ -8,13 +8,13 @@ use lib.Dec.{leb}
 use borrow.Author.Tests.{leb-true, not-false}
 use Rattle.rules.specs.Maps.{between, units, every, least}
 use Rattle.rules.specs.Message.{last}
-use Rattle.rules.specs.State.{State, minAL, opened, closed}
-use Rattle.rules.specs.Sound.{rangesFit, sound}
-use Rattle.rules.specs.Calls.{Opened, openChecks, opening}
+use Rattle.rules.specs.State.{State, min_al, opened, closed}
+use Rattle.rules.specs.Sound.{ranges_fit, sound}
+use Rattle.rules.specs.Calls.{Opened, open_checks, opening}
 use Rattle.rules.proofs.MapsLaws.{and_left, and_right, between-low, between-high, units_in, least-le, least-glb, every-at}
 use Rattle.rules.proofs.CallsLaws.{Passed}
 use Rattle.rules.proofs.CallCases.{open-cases}
-use Rattle.rules.proofs.SoundLaws.{Ranges, Sound, rangesFit-facts, facts-sound}
+use Rattle.rules.proofs.SoundLaws.{Ranges, Sound, ranges_fit-facts, facts-sound}
 
 -- what can be opened
 pub record Opens (i n w cid : ℕ) (first : ℕ → ℕ) : Type 0 where
@@ -23,13 +23,13 @@ pub record Opens (i n w cid : ℕ) (first : ℕ → ℕ) : Type 0 where
   pub low : (k : ℕ) → 1 ≤ k → k ≤ n → 1 ≤ first k
   pub high : (k : ℕ) → 1 ≤ k → k ≤ n → first k ≤ last
 
-pub passed-opens : (i n w cid : ℕ) (first : ℕ → ℕ) → Passed (openChecks i n w cid first) → Opens i n w cid first
-unfolding openChecks
+pub passed-opens : (i n w cid : ℕ) (first : ℕ → ℕ) → Passed (open_checks i n w cid first) → Opens i n w cid first
+unfolding open_checks
 passed-opens i n w cid first h =
-    let all : rangesFit i n w && leb cid last && every 1 n (λ k. between 1 last (first k)) ≡ true = not-false _ h.0 in
+    let all : ranges_fit i n w && leb cid last && every 1 n (λ k. between 1 last (first k)) ≡ true = not-false _ h.0 in
     let firsts : every 1 n (λ k. between 1 last (first k)) ≡ true = search (and_left, and_right) in
     record {
-      ranges = rangesFit-facts i n w (search (and_left, and_right));
+      ranges = ranges_fit-facts i n w (search (and_left, and_right));
       group = leb-true cid last (search (and_left, and_right));
       low = λ k a b. between-low 1 last (first k) (every-at 1 n (λ k. between 1 last (first k)) firsts k a (omega arith));
       high = λ k a b. between-high 1 last (first k) (every-at 1 n (λ k. between 1 last (first k)) firsts k a (omega arith));
@@ -54,7 +54,7 @@ module _ (i n w cid : ℕ) (first : ℕ → ℕ) (f : Opens i n w cid first) whe
       )
 
   pub opened-sound : Sound (opened i n w cid first)
-  unfolding opened minAL
+  unfolding opened min_al
   opened-sound =
       record {
         ranges = f.ranges;
@@ -73,7 +73,7 @@ module _ (i n w cid : ℕ) (first : ℕ → ℕ) (f : Opens i n w cid first) whe
       }
 
 pub closed-unsound : sound closed ≡ false
-unfolding sound rangesFit between closed opened
+unfolding sound ranges_fit between closed opened
 closed-unsound = refl
 
 pub data Opening : Opened → Type 0 where

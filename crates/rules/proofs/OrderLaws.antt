@@ -7,11 +7,11 @@ use Prim.Native.Nat.{ℕ, ◌≤◌, ◌<◌}
 use native.Mathlib.Omega.{arith}
 use Rattle.rules.specs.Maps.{least}
 use Rattle.rules.specs.Message.{Message}
-use Rattle.rules.specs.State.{Place, State, minAL, minPAL}
-use Rattle.rules.specs.Steps.{insert, stored, preacked, preackTo, moved, accepted}
+use Rattle.rules.specs.State.{Place, State, min_al, min_pal}
+use Rattle.rules.specs.Steps.{insert, stored, preacked, preack_to, moved, accepted}
 use Rattle.rules.proofs.MapsLaws.{least-le}
 use Rattle.rules.proofs.InsertLaws.{insert-mem}
-use Rattle.rules.proofs.StepsLaws.{Due, Ready, preackTo-all, confirm-all}
+use Rattle.rules.proofs.StepsLaws.{Due, Ready, preack_to-all, confirm-all}
 
 -- by table t, AL or PAL, each unit 1 to n expects a number past q's
 pub record Beyond (n : ℕ) (t : ℕ → ℕ → ℕ) (q : Place) : Type 0 where
@@ -26,7 +26,7 @@ pub record Moves (s t : State) : Type 0 where
   pub confirmed : (q : Place) → Memᴰ q t.confirmed → Memᴰ q s.confirmed ⊎ Beyond t.n t.pal q
 
 preacked-moves : (j : ℕ) (s t : State) (p : Place) (ps : List Place) → t.confirmed ≡ s.confirmed → Moves s t → Due j t p ps → Moves s (preacked t p)
-unfolding preacked minAL
+unfolding preacked min_al
 preacked-moves j s t p ps same h due =
     record {
       preacknowledged = λ q m. go q (Memᴰ.append_cases t.confirmed m);
@@ -50,7 +50,7 @@ tail-mem q [] m = m
 tail-mem q (p ∷ l) m = Memᴰ.tail m
 
 moved-moves : (s t : State) (p : Place) (ps : List Place) → Moves s t → Ready t p ps → Moves s (moved t p)
-unfolding moved minPAL
+unfolding moved min_pal
 moved-moves s t p ps h ready =
     record {
       preacknowledged = λ q m. h.preacknowledged q (back q (Memᴰ.append_cases (t.confirmed ++ (p ∷ [])) m));
@@ -75,8 +75,8 @@ moved-moves s t p ps h ready =
 pub accepted-moves : (s : State) (p : Message) → Moves s (accepted s p)
 unfolding accepted stored preacked
 accepted-moves s p =
-    confirm-all (Moves s) (λ t q qs h ready. moved-moves s t q qs h ready) (preackTo s.n (stored s p))
-    (preackTo-all Early early s.n (stored s p) (refl, record { preacknowledged = λ q m. inl m; confirmed = λ q m. inl m })).0.1
+    confirm-all (Moves s) (λ t q qs h ready. moved-moves s t q qs h ready) (preack_to s.n (stored s p))
+    (preack_to-all Early early s.n (stored s p) (refl, record { preacknowledged = λ q m. inl m; confirmed = λ q m. inl m })).0.1
   where
     Early : State → Type 0
     Early t = (t.confirmed ≡ s.confirmed) × Moves s t

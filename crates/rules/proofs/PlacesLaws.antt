@@ -9,8 +9,8 @@ use borrow.Author.Tests.{eqb-true, eq-eqb, ne_eqb}
 use Rattle.rules.specs.Maps.{all}
 use Rattle.rules.specs.State.{Place, State, taken, from}
 use Rattle.rules.specs.Message.{Message}
-use Rattle.rules.specs.Steps.{placed, stored, insert, withoutOldest, preacked, moved, withoutTaken}
-use Rattle.rules.specs.Sound.{samePlace, once}
+use Rattle.rules.specs.Steps.{placed, stored, insert, without_oldest, preacked, moved, without_taken}
+use Rattle.rules.specs.Sound.{same_place, once}
 use Rattle.rules.proofs.MapsLaws.{Eq?, same, other, eq?, and_left, and_right, and_intro}
 use Rattle.rules.proofs.InsertLaws.{inserted}
 use Rattle.rules.proofs.StepsLaws.{Due, Ready}
@@ -57,13 +57,13 @@ module _ (f : Place → ℕ) where
       omega (arith, ap tally i.whole, ap tally i.result, tally-append i.before i.after, tally-append i.before (p ∷ i.after))
 
   -- what is left without the oldest of a sender, and that oldest
-  pub tally-withoutOldest : (j : ℕ) (l : List Place) (p : Place) (ps : List Place) → from j l ≡ p ∷ ps → f p + tally (withoutOldest j l) ≡ tally l
+  pub tally-without_oldest : (j : ℕ) (l : List Place) (p : Place) (ps : List Place) → from j l ≡ p ∷ ps → f p + tally (without_oldest j l) ≡ tally l
   unfolding from
-  tally-withoutOldest j [] p ps e = absurd (nil≢cons e)
-  tally-withoutOldest j (q ∷ l) p ps e = go (eqb q.src j) e (λ x. tally-withoutOldest j l p ps x)
+  tally-without_oldest j [] p ps e = absurd (nil≢cons e)
+  tally-without_oldest j (q ∷ l) p ps e = go (eqb q.src j) e (λ x. tally-without_oldest j l p ps x)
     where
-      go : (t : Bool) → cond t (q ∷ from j l) (from j l) ≡ p ∷ ps → (from j l ≡ p ∷ ps → f p + tally (withoutOldest j l) ≡ tally l)
-          → f p + tally (cond t l (q ∷ withoutOldest j l)) ≡ f q + tally l
+      go : (t : Bool) → cond t (q ∷ from j l) (from j l) ≡ p ∷ ps → (from j l ≡ p ∷ ps → f p + tally (without_oldest j l) ≡ tally l)
+          → f p + tally (cond t l (q ∷ without_oldest j l)) ≡ f q + tally l
       go true e ih = ap (λ z. f z + tally l) (sym (head-eq_of_cons-eq e))
       go false e ih = omega (arith, ih e)
 
@@ -78,7 +78,7 @@ module _ (f : Place → ℕ) where
         tally-taken s,
         tally-taken (preacked s p),
         tally-insert p s.ordered,
-        tally-withoutOldest p.src s.waiting p ps (subst (λ k. from k s.waiting ≡ p ∷ ps) (sym due.src) due.oldest),
+        tally-without_oldest p.src s.waiting p ps (subst (λ k. from k s.waiting ≡ p ∷ ps) (sym due.src) due.oldest),
       )
 
   pub tally-moved : (s : State) (p : Place) (ps : List Place) → Ready s p ps → tally (taken (moved s p)) ≡ tally (taken s)
@@ -90,9 +90,9 @@ module _ (f : Place → ℕ) where
   unfolding stored
   tally-stored s p = omega (arith, tally-taken s, tally-taken (stored s p), tally-append s.waiting (placed s p ∷ []))
 
-  pub tally-withoutTaken : (s : State) (p : Place) (ps : List Place) → s.confirmed ≡ p ∷ ps → f p + tally (taken (withoutTaken s)) ≡ tally (taken s)
-  unfolding withoutTaken
-  tally-withoutTaken s p ps e = omega (arith, tally-taken s, tally-taken (withoutTaken s), ap tally e, ap (λ l. tally (tail l)) e)
+  pub tally-without_taken : (s : State) (p : Place) (ps : List Place) → s.confirmed ≡ p ∷ ps → f p + tally (taken (without_taken s)) ≡ tally (taken s)
+  unfolding without_taken
+  tally-without_taken s p ps e = omega (arith, tally-taken s, tally-taken (without_taken s), ap tally e, ap (λ l. tally (tail l)) e)
 
 -- a test holds of each where none that fails it is counted
 pub all-tally : (t : Place → Bool) (l : List Place) → all t l ≡ eqb (tally (λ p. bit (not (t p))) l) 0
@@ -116,17 +116,17 @@ count j k l = tally (λ q. bit (stands j k q)) l
 -- ---- no place twice
 
 -- all of the list are other places than p
-apart-count : (p : Place) (l : List Place) → all (λ q. not (samePlace p q)) l ≡ eqb (count p.src p.slot l) 0
+apart-count : (p : Place) (l : List Place) → all (λ q. not (same_place p q)) l ≡ eqb (count p.src p.slot l) 0
 apart-count p l =
-    all-tally (λ q. not (samePlace p q)) l
-    ∙ ap (λ (f : Place → ℕ). eqb (tally f l) 0) (fun_ext (λ q. ap bit (not-not (samePlace p q))))
+    all-tally (λ q. not (same_place p q)) l
+    ∙ ap (λ (f : Place → ℕ). eqb (tally f l) 0) (fun_ext (λ q. ap bit (not-not (same_place p q))))
 
 pub once-count : (l : List Place) → once l ≡ true → (j k : ℕ) → count j k l ≤ 1
 once-count [] h j k = omega arith
-once-count (p ∷ l) h j k = go (eq? j p.src) (eq? k p.slot) (once-count l (and_right (all (λ q. not (samePlace p q)) l) (once l) h) j k)
+once-count (p ∷ l) h j k = go (eq? j p.src) (eq? k p.slot) (once-count l (and_right (all (λ q. not (same_place p q)) l) (once l) h) j k)
   where
     none : count p.src p.slot l ≡ 0
-    none = eqb-true (count p.src p.slot l) 0 (sym (apart-count p l) ∙ and_left (all (λ q. not (samePlace p q)) l) (once l) h)
+    none = eqb-true (count p.src p.slot l) 0 (sym (apart-count p l) ∙ and_left (all (λ q. not (same_place p q)) l) (once l) h)
 
     go : {a b : Bool} → Eq? j p.src a → Eq? k p.slot b → count j k l ≤ 1 → bit (a && b) + count j k l ≤ 1
     go (same x) (same y) ih = rw (x, y) (omega (arith, none))
@@ -141,5 +141,5 @@ count-once [] h = refl
 count-once (p ∷ l) h =
     let self : bit (stands p.src p.slot p) ≡ 1 = ap bit (stands_self p) in
     let none : count p.src p.slot l ≡ 0 = omega (arith, h p.src p.slot) in
-    and_intro (all (λ q. not (samePlace p q)) l) (once l) (apart-count p l ∙ eq-eqb (count p.src p.slot l) 0 none)
+    and_intro (all (λ q. not (same_place p q)) l) (once l) (apart-count p l ∙ eq-eqb (count p.src p.slot l) 0 none)
     (count-once l (λ j k. omega (arith, h j k)))

@@ -10,10 +10,10 @@ use lib.ListN.{length}
 use borrow.Author.Tests.{ltb-true, ltb-false, leb-true, leb-false, eqb-true, eqb-false, not-false, lt-ltb, le-leb, lt-leb, le-ltb, ne_eqb}
 use Rattle.rules.specs.Maps.{between, at}
 use Rattle.rules.specs.Message.{Request, request, encode}
-use Rattle.rules.specs.State.{State, minAL}
-use Rattle.rules.specs.Steps.{missingFrom, missingTo, asking, isKept, resentFrom, resentTo}
+use Rattle.rules.specs.State.{State, min_al}
+use Rattle.rules.specs.Steps.{missing_from, missing_to, asking, is_kept, resent_from, resent_to}
 use Rattle.rules.specs.Sound.{sound}
-use Rattle.rules.specs.Calls.{written, requestChecks, arriveRequest, makeChecks, makeRequest}
+use Rattle.rules.specs.Calls.{written, request_checks, arrive_request, make_checks, make_request}
 use Rattle.rules.proofs.MapsLaws.{and_both, and_intro, between-low, between-high, is-between, at_listed, or_left, or_right}
 use Rattle.rules.proofs.CallsLaws.{Passed, request-cases, make-cases}
 use Rattle.rules.proofs.ChecksLaws.{refused-above}
@@ -22,15 +22,15 @@ use Rattle.rules.proofs.SoundLaws.{Sound, sound-facts}
 
 -- ---- which numbers are kept
 
-pub isKept-facts : (s : State) (x : ℕ) → isKept s x ≡ true → (minAL s s.me ≤ x) × (x < s.seq)
-unfolding isKept
-isKept-facts s x h =
-    let both = and_both (leb (minAL s s.me) x) (ltb x s.seq) h in
-    (leb-true (minAL s s.me) x both.0, ltb-true x s.seq both.1)
+pub is_kept-facts : (s : State) (x : ℕ) → is_kept s x ≡ true → (min_al s s.me ≤ x) × (x < s.seq)
+unfolding is_kept
+is_kept-facts s x h =
+    let both = and_both (leb (min_al s s.me) x) (ltb x s.seq) h in
+    (leb-true (min_al s s.me) x both.0, ltb-true x s.seq both.1)
 
-pub facts-isKept : (s : State) (x : ℕ) → minAL s s.me ≤ x → x < s.seq → isKept s x ≡ true
-unfolding isKept
-facts-isKept s x a b = and_intro (leb (minAL s s.me) x) (ltb x s.seq) (le-leb (minAL s s.me) x a) (lt-ltb x s.seq b)
+pub facts-is_kept : (s : State) (x : ℕ) → min_al s s.me ≤ x → x < s.seq → is_kept s x ≡ true
+unfolding is_kept
+facts-is_kept s x a b = and_intro (leb (min_al s s.me) x) (ltb x s.seq) (le-leb (min_al s s.me) x a) (lt-ltb x s.seq b)
 
 -- ---- making a request
 
@@ -51,8 +51,8 @@ pub record Asks (s : State) (k : ℕ) (out : List ℕ) (r : Request) (output : L
   pub acks : (j : ℕ) → 1 ≤ j → j ≤ s.n → at r.ack j ≡ s.req j
   pub frame : output ≡ written out (encode (request r))
 
-passed-asks : (s : State) (k : ℕ) (out : List ℕ) → Passed (makeChecks s k out) → Asks s k out (asking s k) (written out (encode (request (asking s k))))
-unfolding makeChecks asking
+passed-asks : (s : State) (k : ℕ) (out : List ℕ) → Passed (make_checks s k out) → Asks s k out (asking s k) (written out (encode (request (asking s k))))
+unfolding make_checks asking
 passed-asks s k out h =
     let unit : between 1 s.n k ≡ true = not-false (between 1 s.n k) (search (or_left, or_right)) in
     let low = between-low 1 s.n k unit in
@@ -62,7 +62,7 @@ passed-asks s k out h =
       k-low = low;
       k-high = high;
       other = eqb-false k s.me (search (or_left, or_right));
-      missing = omega (arith, leb-false (missingTo s k) (missingFrom s k) (search));
+      missing = omega (arith, leb-false (missing_to s k) (missing_from s k) (search));
       long = ltb-false (length out) (33 + 4 * s.n) (search);
       group = refl;
       from = refl;
@@ -73,16 +73,16 @@ passed-asks s k out h =
       frame = refl;
     }
 
-pub asked-facts : (s : State) (k : ℕ) (out : List ℕ) → (makeRequest s k out).answer ≡ 0 → Asks s k out (asking s k) (makeRequest s k out).output
-unfolding makeChecks
+pub asked-facts : (s : State) (k : ℕ) (out : List ℕ) → (make_request s k out).answer ≡ 0 → Asks s k out (asking s k) (make_request s k out).output
+unfolding make_checks
 asked-facts s k out =
     make-cases s (λ r. r.answer ≡ 0 → Asks s k out (asking s k) r.output) k out (λ a r e. absurd (omega (arith, refused-above 0 r refl)))
     (λ h e. passed-asks s k out h)
 
 -- where a number of k is missing, REQ_k itself included, it is asked for
 pub asks-missing : (s : State) (k : ℕ) (out : List ℕ) → sound s ≡ true → 1 ≤ k → k ≤ s.n → k ≢ s.me → s.req k < s.heard k
-    → 33 + 4 * s.n ≤ length out → (makeRequest s k out).answer ≡ 0
-unfolding makeRequest makeChecks
+    → 33 + 4 * s.n ≤ length out → (make_request s k out).answer ≡ 0
+unfolding make_request make_checks
 asks-missing s k out h low high other missing long =
     rw (
       h,
@@ -98,36 +98,36 @@ pub record Answers (s : State) (r : Request) (numbers : List ℕ) : Type 0 where
   pub comes : Comes s r.cid r.src r.ack
   pub mine : r.lsrc ≡ s.me
   pub past : r.lseq ≤ s.seq
-  -- the range: from the larger of ACK_i and minAL_i, ending before LSEQ
-  pub range : numbers ≡ max (at r.ack s.me) (minAL s s.me) ∷ (r.lseq - 1) ∷ []
-  pub some : max (at r.ack s.me) (minAL s s.me) < r.lseq
+  -- the range: from the larger of ACK_i and min_al_i, ending before LSEQ
+  pub range : numbers ≡ max (at r.ack s.me) (min_al s s.me) ∷ (r.lseq - 1) ∷ []
+  pub some : max (at r.ack s.me) (min_al s s.me) < r.lseq
 
-passed-answers : (s : State) (r : Request) → Passed (requestChecks s r) → Answers s r (resentFrom s r ∷ (resentTo s r - 1) ∷ [])
-unfolding requestChecks resentFrom
+passed-answers : (s : State) (r : Request) → Passed (request_checks s r) → Answers s r (resent_from s r ∷ (resent_to s r - 1) ∷ [])
+unfolding request_checks resent_from
 passed-answers s r h =
     record {
       comes = passed-comes s r.cid r.src r.ack (search) (search) (search (or_left, or_right)) (search) (search (or_left, or_right));
       mine = eqb-true r.lsrc s.me (not-false (eqb r.lsrc s.me) (search));
       past = ltb-false s.seq r.lseq (search (or_left, or_right));
       range = refl;
-      some = leb-false r.lseq (resentFrom s r) (search);
+      some = leb-false r.lseq (resent_from s r) (search);
     }
 
-pub answered-facts : (s : State) (r : Request) → (arriveRequest s r).answer ≡ 0 → Answers s r (arriveRequest s r).numbers
-unfolding requestChecks
+pub answered-facts : (s : State) (r : Request) → (arrive_request s r).answer ≡ 0 → Answers s r (arrive_request s r).numbers
+unfolding request_checks
 answered-facts s r =
     request-cases s (λ o. o.answer ≡ 0 → Answers s r o.numbers) r (λ a x e. absurd (omega (arith, refused-above 0 x refl))) (λ h e. passed-answers s r h)
 
 -- the numbers of the range are those kept that were asked for, and no others
-pub range-kept : (s : State) (r : Request) → (arriveRequest s r).answer ≡ 0 → (x : ℕ)
-    → ((at (arriveRequest s r).numbers 1 ≤ x) × (x ≤ at (arriveRequest s r).numbers 2))
-    ↔ ((isKept s x ≡ true) × (at r.ack s.me ≤ x) × (x < r.lseq))
+pub range-kept : (s : State) (r : Request) → (arrive_request s r).answer ≡ 0 → (x : ℕ)
+    → ((at (arrive_request s r).numbers 1 ≤ x) × (x ≤ at (arrive_request s r).numbers 2))
+    ↔ ((is_kept s x ≡ true) × (at r.ack s.me ≤ x) × (x < r.lseq))
 range-kept s r e x =
     let f = answered-facts s r e in
-    let first : at (arriveRequest s r).numbers 1 ≡ max (at r.ack s.me) (minAL s s.me) = ap (λ (l : List ℕ). at l 1) f.range in
-    let final : at (arriveRequest s r).numbers 2 ≡ r.lseq - 1 = ap (λ (l : List ℕ). at l 2) f.range in (
-      (λ h. (facts-isKept s x (omega arith) (omega arith), omega arith, omega arith)),
+    let first : at (arrive_request s r).numbers 1 ≡ max (at r.ack s.me) (min_al s s.me) = ap (λ (l : List ℕ). at l 1) f.range in
+    let final : at (arrive_request s r).numbers 2 ≡ r.lseq - 1 = ap (λ (l : List ℕ). at l 2) f.range in (
+      (λ h. (facts-is_kept s x (omega arith) (omega arith), omega arith, omega arith)),
       (λ h.
-          let kept = isKept-facts s x h.0 in
+          let kept = is_kept-facts s x h.0 in
           (omega arith, omega arith)),
     )

@@ -8,10 +8,10 @@ use lib.ListN.{length}
 use borrow.Author.Tests.{ltb-true, ltb-false, leb-false, not-false}
 use Rattle.rules.specs.Maps.{at, least}
 use Rattle.rules.specs.Message.{Message, last}
-use Rattle.rules.specs.State.{State, minAL, places, taken}
-use Rattle.rules.specs.Steps.{window, maySend, outgoing}
+use Rattle.rules.specs.State.{State, min_al, places, taken}
+use Rattle.rules.specs.Steps.{window, may_send, outgoing}
 use Rattle.rules.specs.Sound.{sound}
-use Rattle.rules.specs.Calls.{full, sendChecks, send}
+use Rattle.rules.specs.Calls.{full, send_checks, send}
 use Rattle.rules.proofs.MapsLaws.{least-le, length-listed, at_listed}
 use Rattle.rules.proofs.CallsLaws.{Passed, send-cases}
 use Rattle.rules.proofs.ChecksLaws.{refused-above}
@@ -23,17 +23,17 @@ pub record Sends (s : State) (d out : List ℕ) : Type 0 where
   pub short : length d ≤ 48
   pub seq : s.seq < last
   -- the window is open, by W and by the places that each unit has
-  pub wide : s.seq < minAL s s.me + s.w
+  pub wide : s.seq < min_al s s.me + s.w
   pub ahead : (j : ℕ) → 1 ≤ j → j ≤ s.n → s.seq < s.al s.me j + s.w
-  pub spared : s.seq < minAL s s.me + least s.n s.buf / s.n
+  pub spared : s.seq < min_al s s.me + least s.n s.buf / s.n
   pub room : full s s.me ≡ false
   pub long : 37 + 4 * s.n + length d ≤ length out
 
-pub passed-sends : (s : State) (d out : List ℕ) → Passed (sendChecks s d out) → Sends s d out
-unfolding sendChecks maySend window minAL
+pub passed-sends : (s : State) (d out : List ℕ) → Passed (send_checks s d out) → Sends s d out
+unfolding send_checks may_send window min_al
 passed-sends s d out h =
     let f : Sound s = sound-facts s (not-false (sound s) (search)) in
-    let gap : s.seq < minAL s s.me + window s = ltb-true s.seq (minAL s s.me + window s) (not-false (maySend s) (search)) in
+    let gap : s.seq < min_al s s.me + window s = ltb-true s.seq (min_al s s.me + window s) (not-false (may_send s) (search)) in
     record {
       sound = f;
       short = ltb-false 48 (length d) (search);
@@ -46,7 +46,7 @@ passed-sends s d out h =
     }
 
 pub sent-facts : (s : State) (d out : List ℕ) → (send s d out).answer ≡ 0 → Sends s d out
-unfolding sendChecks
+unfolding send_checks
 sent-facts s d out =
     send-cases s (λ r. r.answer ≡ 0 → Sends s d out) d out (λ a r e. absurd (omega (arith, refused-above 0 r refl))) (λ h e. passed-sends s d out h)
 

@@ -11,7 +11,7 @@ use borrow.Author.Tests.{leb-false, ltb-true, ltb-false, lt-ltb, eq-eqb, ne_eqb}
 use Rattle.rules.specs.Maps.{among}
 use Rattle.rules.specs.Message.{Message}
 use Rattle.rules.specs.State.{Place, State, taken, from, places, free}
-use Rattle.rules.specs.Steps.{firstFree, freeSlot, placed}
+use Rattle.rules.specs.Steps.{first_free, free_slot, placed}
 use Rattle.rules.specs.Calls.{full}
 use Rattle.rules.proofs.MapsLaws.{Lt?, lt, ge, lt?, Eq?, same, other, eq?}
 use Rattle.rules.proofs.PlacesLaws.{bit, tally, stands, count}
@@ -80,29 +80,29 @@ module _ (j m : ℕ) where
 -- ---- the first free slot
 
 module _ (l : List ℕ) where
-  pub firstFree-le : (i m : ℕ) → firstFree l i m ≤ i + m
-  firstFree-le i zero = omega arith
-  firstFree-le i (suc m) = go (among i l) (firstFree-le (suc i) m)
+  pub first_free-le : (i m : ℕ) → first_free l i m ≤ i + m
+  first_free-le i zero = omega arith
+  first_free-le i (suc m) = go (among i l) (first_free-le (suc i) m)
     where
-      go : (t : Bool) → firstFree l (suc i) m ≤ suc i + m → cond t (firstFree l (suc i) m) i ≤ i + suc m
+      go : (t : Bool) → first_free l (suc i) m ≤ suc i + m → cond t (first_free l (suc i) m) i ≤ i + suc m
       go true ih = omega arith
       go false ih = omega arith
 
-  firstFree-free : (i m : ℕ) → firstFree l i m < i + m → among (firstFree l i m) l ≡ false
-  firstFree-free i zero h = absurd (omega arith)
-  firstFree-free i (suc m) h = go (among i l) refl h (λ x. firstFree-free (suc i) m x)
+  first_free-free : (i m : ℕ) → first_free l i m < i + m → among (first_free l i m) l ≡ false
+  first_free-free i zero h = absurd (omega arith)
+  first_free-free i (suc m) h = go (among i l) refl h (λ x. first_free-free (suc i) m x)
     where
-      go : (t : Bool) → among i l ≡ t → cond t (firstFree l (suc i) m) i < i + suc m
-          → (firstFree l (suc i) m < suc i + m → among (firstFree l (suc i) m) l ≡ false) → among (cond t (firstFree l (suc i) m) i) l ≡ false
+      go : (t : Bool) → among i l ≡ t → cond t (first_free l (suc i) m) i < i + suc m
+          → (first_free l (suc i) m < suc i + m → among (first_free l (suc i) m) l ≡ false) → among (cond t (first_free l (suc i) m) i) l ≡ false
       go true e h ih = ih (omega arith)
       go false e h ih = e
 
-  firstFree-past : (i m k : ℕ) → i ≤ k → k < firstFree l i m → among k l ≡ true
-  firstFree-past i zero k a b = absurd (omega arith)
-  firstFree-past i (suc m) k a b = go (among i l) refl b (λ x y. firstFree-past (suc i) m k x y) (eq? i k)
+  first_free-past : (i m k : ℕ) → i ≤ k → k < first_free l i m → among k l ≡ true
+  first_free-past i zero k a b = absurd (omega arith)
+  first_free-past i (suc m) k a b = go (among i l) refl b (λ x y. first_free-past (suc i) m k x y) (eq? i k)
     where
-      go : (t : Bool) → among i l ≡ t → k < cond t (firstFree l (suc i) m) i
-          → (suc i ≤ k → k < firstFree l (suc i) m → among k l ≡ true) → {u : Bool} → Eq? i k u → among k l ≡ true
+      go : (t : Bool) → among i l ≡ t → k < cond t (first_free l (suc i) m) i
+          → (suc i ≤ k → k < first_free l (suc i) m → among k l ≡ true) → {u : Bool} → Eq? i k u → among k l ≡ true
       go true e b ih (same x) = subst (λ z. among z l ≡ true) x e
       go true e b ih (other x) = ih (omega arith) b
       go false e b ih x = absurd (omega arith)
@@ -133,27 +133,27 @@ among-count j k (p ∷ l) = rw (eqb_comm j p.src) (go (eqb p.src j) (among-count
 
 module _ (s : State) (j : ℕ) where
   -- where the slot found is one of the 4W, no place stands there
-  pub freeSlot-count : freeSlot s j < 4 * s.w → count j (freeSlot s j) (taken s) ≡ 0
-  unfolding freeSlot
-  freeSlot-count h =
-      let none = firstFree-free (slots_of j (taken s)) 0 (4 * s.w) (omega arith) in
-      omega (arith, ltb-false 0 (count j (freeSlot s j) (taken s)) (sym (among-count j (freeSlot s j) (taken s)) ∙ none))
+  pub free_slot-count : free_slot s j < 4 * s.w → count j (free_slot s j) (taken s) ≡ 0
+  unfolding free_slot
+  free_slot-count h =
+      let none = first_free-free (slots_of j (taken s)) 0 (4 * s.w) (omega arith) in
+      omega (arith, ltb-false 0 (count j (free_slot s j) (taken s)) (sym (among-count j (free_slot s j) (taken s)) ∙ none))
 
   -- and each slot before it is taken
-  pub freeSlot-past : (k : ℕ) → k < freeSlot s j → 1 ≤ count j k (taken s)
-  unfolding freeSlot
-  freeSlot-past k h =
-      ltb-true 0 (count j k (taken s)) (sym (among-count j k (taken s)) ∙ firstFree-past (slots_of j (taken s)) 0 (4 * s.w) k (omega arith) h)
+  pub free_slot-past : (k : ℕ) → k < free_slot s j → 1 ≤ count j k (taken s)
+  unfolding free_slot
+  free_slot-past k h =
+      ltb-true 0 (count j k (taken s)) (sym (among-count j k (taken s)) ∙ first_free-past (slots_of j (taken s)) 0 (4 * s.w) k (omega arith) h)
 
   -- a sender that is not full has a free slot
-  pub freeSlot-lt : full s j ≡ false → freeSlot s j < 4 * s.w
+  pub free_slot-lt : full s j ≡ false → free_slot s j < 4 * s.w
   unfolding full
-  freeSlot-lt h = go (lt? (freeSlot s j) (4 * s.w))
+  free_slot-lt h = go (lt? (free_slot s j) (4 * s.w))
     where
       room : length (from j (taken s)) < 4 * s.w
       room = leb-false (4 * s.w) (length (from j (taken s))) h
 
-      go : {t : Bool} → Lt? (freeSlot s j) (4 * s.w) t → freeSlot s j < 4 * s.w
+      go : {t : Bool} → Lt? (free_slot s j) (4 * s.w) t → free_slot s j < 4 * s.w
       go (lt x) = x
       go (ge x) =
           absurd (
@@ -162,14 +162,14 @@ module _ (s : State) (j : ℕ) where
             room,
             counts-most j (4 * s.w) (taken s),
             sum_same 0 (4 * s.w) 1,
-            sum-le 0 (4 * s.w) (λ k. 1) (λ k. count j k (taken s)) (λ k a b. freeSlot-past k (omega arith)),
+            sum-le 0 (4 * s.w) (λ k. 1) (λ k. count j k (taken s)) (λ k a b. free_slot-past k (omega arith)),
           )
           )
 
 -- a message goes to a place that is not taken
 pub placed-free : (s : State) (p : Message) → full s p.src ≡ false → count (placed s p).src (placed s p).slot (taken s) ≡ 0
 unfolding placed
-placed-free s p room = freeSlot-count s p.src (freeSlot-lt s p.src room)
+placed-free s p room = free_slot-count s p.src (free_slot-lt s p.src room)
 
 -- ---- a sound unit's places
 

@@ -17,6 +17,6 @@ all_bytes w [] = []
 all_bytes w (x ∷ xs) = bytes w x ++ all_bytes w xs
 
 -- the n numbers that the bytes say, w bytes each
-abbrev pub allNumbers : ℕ → ℕ → List ℕ → List ℕ
-allNumbers w zero l = []
-allNumbers w (suc n) l = number (take w l) ∷ allNumbers w n (drop w l)
+abbrev pub all_numbers : ℕ → ℕ → List ℕ → List ℕ
+all_numbers w zero l = []
+all_numbers w (suc n) l = number (take w l) ∷ all_numbers w n (drop w l)

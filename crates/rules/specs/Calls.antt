@@ -4,8 +4,8 @@ use Rattle.std.proofs.Math.Option.{Option, none, some}
 use Rattle.rules.specs.Maps.{among, between, at, every}
 use Rattle.rules.specs.Message.{Message, Request, Said, message, request, encode, decode, last}
 use Rattle.rules.specs.State.{Place, State, taken, from, places, opened, closed}
-use Rattle.rules.specs.Steps.{maySend, outgoing, known, noted, missingFrom, missingTo, asking, isKept, resentFrom, resentTo, accepted, sent, withoutTaken}
-use Rattle.rules.specs.Sound.{rangesFit, sound}
+use Rattle.rules.specs.Steps.{may_send, outgoing, known, noted, missing_from, missing_to, asking, is_kept, resent_from, resent_to, accepted, sent, without_taken}
+use Rattle.rules.specs.Sound.{ranges_fit, sound}
 
 -- a test, and the answer that refuses where it holds
 pub record Check : Type 0 where
@@ -53,23 +53,23 @@ pub record Opened : Type 0 where
   pub answer : ℕ
   pub unit : State
 
-unfoldable pub openChecks : ℕ → ℕ → ℕ → ℕ → (ℕ → ℕ) → List Check
-openChecks i n w cid first =
-    (not (rangesFit i n w && leb cid last && every 1 n (λ k. between 1 last (first k))) ⇒ 2) ∷ []
+unfoldable pub open_checks : ℕ → ℕ → ℕ → ℕ → (ℕ → ℕ) → List Check
+open_checks i n w cid first =
+    (not (ranges_fit i n w && leb cid last && every 1 n (λ k. between 1 last (first k))) ⇒ 2) ∷ []
 
 unfoldable pub opening : ℕ → ℕ → ℕ → ℕ → (ℕ → ℕ) → Opened
 opening i n w cid first =
-    decide (openChecks i n w cid first) (λ a. record { answer = a; unit = closed })
+    decide (open_checks i n w cid first) (λ a. record { answer = a; unit = closed })
     (record { answer = 0; unit = opened i n w cid first })
 
 -- ---- send: number and length of the frame
 
-unfoldable pub sendChecks : State → List ℕ → List ℕ → List Check
-sendChecks s d out =
+unfoldable pub send_checks : State → List ℕ → List ℕ → List Check
+send_checks s d out =
     (not (sound s) ⇒ 1)
     ∷ (ltb 48 (length d) ⇒ 13)
     ∷ (leb last s.seq ⇒ 14)
-    ∷ (not (maySend s) ⇒ 15)
+    ∷ (not (may_send s) ⇒ 15)
     ∷ (full s s.me ⇒ 12)
     ∷ (ltb (length out) (37 + 4 * s.n + length d) ⇒ 16)
     ∷ []
@@ -78,7 +78,7 @@ unfoldable pub send : State → List ℕ → List ℕ → Result
 send s d out =
     let m : Message = outgoing s d in
     let f : List ℕ = encode (message m) in
-    decide (sendChecks s d out) (refusal 2 s out)
+    decide (send_checks s d out) (refusal 2 s out)
     (record { answer = 0; numbers = s.seq ∷ length f ∷ []; next = sent s m; output = written out f })
 
 -- ---- arrival: first and last number of the range that answers a request
@@ -87,8 +87,8 @@ send s d out =
 unfoldable pub foreign : State → ℕ → List ℕ → Bool
 foreign s src ack = not (eqb (length ack) s.n) || not (is_unit s src)
 
-unfoldable pub dataChecks : State → Message → List Check
-dataChecks s p =
+unfoldable pub data_checks : State → Message → List Check
+data_checks s p =
     (not (sound s) ⇒ 1)
     ∷ (not (eqb p.cid s.cid) ⇒ 4)
     ∷ (foreign s p.src p.ack ⇒ 5)
@@ -105,60 +105,60 @@ dataChecks s p =
     ∷ []
 
 -- 9, 10 and 12 note the missing numbers, and nothing else changes
-unfoldable pub arriveData : State → Message → Result
-arriveData s p =
-    decide (dataChecks s p) (λ a. refusal 2 (cond (among a (9 ∷ 10 ∷ 12 ∷ [])) (noted s p) s) [] a)
+unfoldable pub arrive_data : State → Message → Result
+arrive_data s p =
+    decide (data_checks s p) (λ a. refusal 2 (cond (among a (9 ∷ 10 ∷ 12 ∷ [])) (noted s p) s) [] a)
     (record { answer = 0; numbers = 0 ∷ 0 ∷ []; next = accepted s p; output = [] })
 
-unfoldable pub requestChecks : State → Request → List Check
-requestChecks s r =
+unfoldable pub request_checks : State → Request → List Check
+request_checks s r =
     (not (sound s) ⇒ 1)
     ∷ (not (eqb r.cid s.cid) ⇒ 4)
     ∷ (foreign s r.src r.ack || not (is_unit s r.lsrc) || eqb r.lsrc r.src ⇒ 5)
     ∷ (eqb r.src s.me ⇒ 6)
     ∷ (not (eqb r.lsrc s.me) ⇒ 17)
     ∷ (ltb s.seq (at r.ack s.me) || ltb s.seq r.lseq || leb r.lseq (at r.ack s.me) ⇒ 7)
-    ∷ (leb (resentTo s r) (resentFrom s r) ⇒ 18)
+    ∷ (leb (resent_to s r) (resent_from s r) ⇒ 18)
     ∷ []
 
-unfoldable pub arriveRequest : State → Request → Result
-arriveRequest s r =
-    decide (requestChecks s r) (refusal 2 s [])
-    (record { answer = 0; numbers = resentFrom s r ∷ (resentTo s r - 1) ∷ []; next = s; output = [] })
+unfoldable pub arrive_request : State → Request → Result
+arrive_request s r =
+    decide (request_checks s r) (refusal 2 s [])
+    (record { answer = 0; numbers = resent_from s r ∷ (resent_to s r - 1) ∷ []; next = s; output = [] })
 
-abbrev pub arriveSaid : State → Option Said → Result
-arriveSaid s none = decide ((not (sound s) ⇒ 1) ∷ []) (refusal 2 s []) (refusal 2 s [] 3)
-arriveSaid s (some (message p)) = arriveData s p
-arriveSaid s (some (request r)) = arriveRequest s r
+abbrev pub arrive_said : State → Option Said → Result
+arrive_said s none = decide ((not (sound s) ⇒ 1) ∷ []) (refusal 2 s []) (refusal 2 s [] 3)
+arrive_said s (some (message p)) = arrive_data s p
+arrive_said s (some (request r)) = arrive_request s r
 
 unfoldable pub arrive : State → List ℕ → Result
-arrive s l = arriveSaid s (decode l)
+arrive s l = arrive_said s (decode l)
 
 -- ---- making a request: length of the frame
 
-unfoldable pub makeChecks : State → ℕ → List ℕ → List Check
-makeChecks s k out =
+unfoldable pub make_checks : State → ℕ → List ℕ → List Check
+make_checks s k out =
     (not (sound s) ⇒ 1)
     ∷ (not (is_unit s k) || eqb k s.me ⇒ 5)
-    ∷ (leb (missingTo s k) (missingFrom s k) ⇒ 18)
+    ∷ (leb (missing_to s k) (missing_from s k) ⇒ 18)
     ∷ (ltb (length out) (33 + 4 * s.n) ⇒ 16)
     ∷ []
 
-unfoldable pub makeRequest : State → ℕ → List ℕ → Result
-makeRequest s k out =
+unfoldable pub make_request : State → ℕ → List ℕ → Result
+make_request s k out =
     let f : List ℕ = encode (request (asking s k)) in
-    decide (makeChecks s k out) (refusal 1 s out)
+    decide (make_checks s k out) (refusal 1 s out)
     (record { answer = 0; numbers = length f ∷ []; next = s; output = written out f })
 
 -- ---- copying out the kept frame of number x: its length
 
-unfoldable pub copyChecks : State → ℕ → List ℕ → List Check
-copyChecks s x out =
-    (not (sound s) ⇒ 1) ∷ (not (isKept s x) ⇒ 18) ∷ (ltb (length out) (length (s.kept x)) ⇒ 16) ∷ []
+unfoldable pub copy_checks : State → ℕ → List ℕ → List Check
+copy_checks s x out =
+    (not (sound s) ⇒ 1) ∷ (not (is_kept s x) ⇒ 18) ∷ (ltb (length out) (length (s.kept x)) ⇒ 16) ∷ []
 
 unfoldable pub copy : State → ℕ → List ℕ → Result
 copy s x out =
-    decide (copyChecks s x out) (refusal 1 s out)
+    decide (copy_checks s x out) (refusal 1 s out)
     (record { answer = 0; numbers = length (s.kept x) ∷ []; next = s; output = written out (s.kept x) })
 
 -- ---- take: sender, number and length of the data
@@ -170,8 +170,8 @@ nothing = record { slot = 0; src = 0; seq = 0; ack = []; text = [] }
 unfoldable pub oldest : State → Place
 oldest s = get_or s.confirmed 0 nothing
 
-unfoldable pub takeChecks : State → List ℕ → List Check
-takeChecks s out =
+unfoldable pub take_checks : State → List ℕ → List Check
+take_checks s out =
     (not (sound s) ⇒ 1)
     ∷ (eqb (length s.confirmed) 0 ⇒ 18)
     ∷ (ltb (length out) (length (oldest s).text) ⇒ 16)
@@ -180,11 +180,11 @@ takeChecks s out =
 unfoldable pub take : State → List ℕ → Result
 take s out =
     let p : Place = oldest s in
-    decide (takeChecks s out) (refusal 3 s out)
+    decide (take_checks s out) (refusal 3 s out)
     (record {
       answer = 0;
       numbers = p.src ∷ p.seq ∷ length p.text ∷ [];
-      next = withoutTaken s;
+      next = without_taken s;
       output = written out p.text;
     })
 
@@ -200,6 +200,6 @@ pub data Call : Type 0 where
 abbrev pub call : State → Call → Result
 call s (sends d out) = send s d out
 call s (hears l) = arrive s l
-call s (asks k out) = makeRequest s k out
+call s (asks k out) = make_request s k out
 call s (copies x out) = copy s x out
 call s (takes out) = take s out

@@ -4,20 +4,20 @@ use Rattle.std.proofs.Math.Option.{Option, none, some}
 use Rattle.rules.specs.Maps.{among}
 use Rattle.rules.specs.Message.{Said, message, request, decode}
 use Rattle.rules.specs.State.{State, closed}
-use Rattle.rules.specs.Steps.{withHeard}
+use Rattle.rules.specs.Steps.{with_heard}
 use Rattle.rules.specs.Calls.{opening, Result, Call, sends, hears, asks, copies, takes, call}
 
 -- ---- 01's order of the refusals
 
 -- of an arrival, by what the frame says; 3 is for what is not a frame, so that the others are for frames
-abbrev pub orderOfSaid : Option Said → List ℕ
-orderOfSaid none = 1 ∷ 3 ∷ []
-orderOfSaid (some (message p)) = 1 ∷ 4 ∷ 5 ∷ 6 ∷ 7 ∷ 8 ∷ 9 ∷ 10 ∷ 11 ∷ 12 ∷ []
-orderOfSaid (some (request r)) = 1 ∷ 4 ∷ 5 ∷ 6 ∷ 17 ∷ 7 ∷ 18 ∷ []
+abbrev pub order_of_said : Option Said → List ℕ
+order_of_said none = 1 ∷ 3 ∷ []
+order_of_said (some (message p)) = 1 ∷ 4 ∷ 5 ∷ 6 ∷ 7 ∷ 8 ∷ 9 ∷ 10 ∷ 11 ∷ 12 ∷ []
+order_of_said (some (request r)) = 1 ∷ 4 ∷ 5 ∷ 6 ∷ 17 ∷ 7 ∷ 18 ∷ []
 
 abbrev pub order_of : Call → List ℕ
 order_of (sends d out) = 1 ∷ 13 ∷ 14 ∷ 15 ∷ 12 ∷ 16 ∷ []
-order_of (hears l) = orderOfSaid (decode l)
+order_of (hears l) = order_of_said (decode l)
 order_of (asks k out) = 1 ∷ 5 ∷ 18 ∷ 16 ∷ []
 order_of (copies x out) = 1 ∷ 18 ∷ 16 ∷ []
 order_of (takes out) = 1 ∷ 18 ∷ 16 ∷ []
@@ -54,7 +54,7 @@ pub record Refusing (s : State) (c : Call) (r : Result) : Type 0 where
   pub output : r.output ≡ lent c
   pub numbers : r.numbers ≡ replicate (handed c) 0
   -- nothing of the unit changes but HEARD, and HEARD only with an answer of `noting`
-  pub unit : r.next ≡ withHeard s r.next.heard
+  pub unit : r.next ≡ with_heard s r.next.heard
   pub heard : among r.answer (noting c) ≡ false → r.next ≡ s
 
 pub record Demand1 (s : State) (c : Call) : Type 0 where

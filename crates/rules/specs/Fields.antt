@@ -1,7 +1,7 @@
 -- House fields (01, "Frames"): one byte tag, two bytes length, content; and the table of the ten tags.
 use Rattle.std.specs.Prelude.{Bool, cond, ◌&&◌, List, [], ◌∷◌, ◌++◌, ℕ, zero, suc, ◌+◌, ◌/◌, ◌%◌, eqb, leb, length, get_or, take, drop}
 use Rattle.rules.specs.Maps.{among}
-use Rattle.rules.specs.Bytes.{bytes, number, all_bytes, allNumbers}
+use Rattle.rules.specs.Bytes.{bytes, number, all_bytes, all_numbers}
 
 -- A line of a table of tags. The content is numbers of `width` bytes each; its length in bytes is from `least` to
 -- `greatest`; frames of these kinds have the field.
@@ -15,11 +15,11 @@ abbrev row : ℕ → ℕ → ℕ → List ℕ → Row
 row w a b k = record { width = w; least = a; greatest = b; kinds = k }
 
 -- the kinds, by their number in tag 2: 1 data, 2 request
-abbrev dataOnly : List ℕ
-dataOnly = 1 ∷ []
+abbrev data_only : List ℕ
+data_only = 1 ∷ []
 
-abbrev requestOnly : List ℕ
-requestOnly = 2 ∷ []
+abbrev request_only : List ℕ
+request_only = 2 ∷ []
 
 abbrev both : List ℕ
 both = 1 ∷ 2 ∷ []
@@ -31,12 +31,12 @@ table =
     ∷ row 1 1 1 both
     ∷ row 4 4 4 both
     ∷ row 1 1 1 both
-    ∷ row 4 4 4 dataOnly
+    ∷ row 4 4 4 data_only
     ∷ row 4 8 32 both
-    ∷ row 2 2 2 dataOnly
-    ∷ row 1 1 1 requestOnly
-    ∷ row 4 4 4 requestOnly
-    ∷ row 1 0 48 dataOnly
+    ∷ row 2 2 2 data_only
+    ∷ row 1 1 1 request_only
+    ∷ row 4 4 4 request_only
+    ∷ row 1 0 48 data_only
     ∷ []
 
 -- Reading and writing go by any table rs, so that an edition is a table.
@@ -51,12 +51,12 @@ row_of rs zero = no_row
 row_of rs (suc i) = get_or rs i no_row
 
 -- the tags of kind k, in rising order: from tag t on, in the lines rs
-abbrev pub tagsFrom : ℕ → List Row → ℕ → List ℕ
-tagsFrom t [] k = []
-tagsFrom t (r ∷ rs) k = cond (among k r.kinds) (t ∷ tagsFrom (suc t) rs k) (tagsFrom (suc t) rs k)
+abbrev pub tags_from : ℕ → List Row → ℕ → List ℕ
+tags_from t [] k = []
+tags_from t (r ∷ rs) k = cond (among k r.kinds) (t ∷ tags_from (suc t) rs k) (tags_from (suc t) rs k)
 
-unfoldable pub tagsOf : List Row → ℕ → List ℕ
-tagsOf rs k = tagsFrom 1 rs k
+unfoldable pub tags_of : List Row → ℕ → List ℕ
+tags_of rs k = tags_from 1 rs k
 
 -- the field of tag t with this content
 abbrev pub field : ℕ → List ℕ → List ℕ
@@ -73,8 +73,8 @@ abbrev pub length_of : List ℕ → ℕ
 length_of l = number (take 2 (drop 1 l))
 
 -- l starts with a whole field of tag t, its length as the table says
-unfoldable pub fieldFits : List Row → ℕ → List ℕ → Bool
-fieldFits rs t l =
+unfoldable pub field_fits : List Row → ℕ → List ℕ → Bool
+field_fits rs t l =
     leb 3 (length l)
     && eqb (get_or l 0 0) t
     && leb (row_of rs t).least (length_of l)
@@ -85,12 +85,12 @@ fieldFits rs t l =
 -- l is fields of the tags ts, each exactly once and in this order, and nothing follows
 abbrev pub fits : List Row → List ℕ → List ℕ → Bool
 fits rs [] l = eqb (length l) 0
-fits rs (t ∷ ts) l = fieldFits rs t l && fits rs ts (drop (3 + length_of l) l)
+fits rs (t ∷ ts) l = field_fits rs t l && fits rs ts (drop (3 + length_of l) l)
 
 -- the numbers in the first field of l, and in each field
-abbrev pub firstNumbers : List Row → ℕ → List ℕ → List ℕ
-firstNumbers rs t l = allNumbers (row_of rs t).width (length_of l / (row_of rs t).width) (drop 3 l)
+abbrev pub first_numbers : List Row → ℕ → List ℕ → List ℕ
+first_numbers rs t l = all_numbers (row_of rs t).width (length_of l / (row_of rs t).width) (drop 3 l)
 
 abbrev pub numbers : List Row → List ℕ → List ℕ → List (List ℕ)
 numbers rs [] l = []
-numbers rs (t ∷ ts) l = firstNumbers rs t l ∷ numbers rs ts (drop (3 + length_of l) l)
+numbers rs (t ∷ ts) l = first_numbers rs t l ∷ numbers rs ts (drop (3 + length_of l) l)

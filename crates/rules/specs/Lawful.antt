@@ -33,8 +33,8 @@ pub record LawfulAck (ack : List ℕ) : Type 0 where
 pub record LawfulMessage (m : Message) : Type 0 where
   pub cid : m.cid ≤ last
   pub src : m.src < 256
-  pub seq-least : 1 ≤ m.seq
-  pub seq-greatest : m.seq < last
+  pub seq_least : 1 ≤ m.seq
+  pub seq_greatest : m.seq < last
   pub ack : LawfulAck m.ack
   pub buf : m.buf < 65536
   pub short : length m.text ≤ 48
@@ -45,8 +45,8 @@ pub record LawfulRequest (r : Request) : Type 0 where
   pub src : r.src < 256
   pub ack : LawfulAck r.ack
   pub lsrc : r.lsrc < 256
-  pub lseq-least : 1 ≤ r.lseq
-  pub lseq-greatest : r.lseq ≤ last
+  pub lseq_least : 1 ≤ r.lseq
+  pub lseq_greatest : r.lseq ≤ last
 
 abbrev pub Lawful : Said → Type 0
 Lawful (message m) = LawfulMessage m

@@ -25,17 +25,17 @@ pub record State : Type 0 where
   pub buf : ℕ → ℕ
   -- heard k: one past the largest number of k's heard of
   pub heard : ℕ → ℕ
-  -- kept s: the own frame of number s, from minAL of the own index up to SEQ - 1
+  -- kept s: the own frame of number s, from min_al of the own index up to SEQ - 1
   pub kept : ℕ → List ℕ
   pub waiting : List Place
   pub ordered : List Place
   pub confirmed : List Place
 
-unfoldable pub minAL : State → ℕ → ℕ
-minAL s k = least s.n (s.al k)
+unfoldable pub min_al : State → ℕ → ℕ
+min_al s k = least s.n (s.al k)
 
-unfoldable pub minPAL : State → ℕ → ℕ
-minPAL s k = least s.n (s.pal k)
+unfoldable pub min_pal : State → ℕ → ℕ
+min_pal s k = least s.n (s.pal k)
 
 -- the taken places, and those of sender k
 abbrev pub taken : State → List Place

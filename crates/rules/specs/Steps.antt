@@ -3,7 +3,7 @@ use Rattle.std.specs.Prelude.{Bool, true, cond, ◌&&◌, ℕ, zero, suc, ◌+�
 use mathlib.Core.List.{List, [], ◌∷◌, ◌++◌, tail, map}
 use Rattle.rules.specs.Maps.{among, upd, column, at, listed, least, every}
 use Rattle.rules.specs.Message.{Message, Request, message, encode}
-use Rattle.rules.specs.State.{Place, State, minAL, minPAL, taken, from, free}
+use Rattle.rules.specs.State.{Place, State, min_al, min_pal, taken, from, free}
 
 -- ---- send
 
@@ -11,8 +11,8 @@ use Rattle.rules.specs.State.{Place, State, minAL, minPAL, taken, from, free}
 unfoldable pub window : State → ℕ
 window s = min s.w (least s.n s.buf / s.n)
 
-unfoldable pub maySend : State → Bool
-maySend s = ltb s.seq (minAL s s.me + window s)
+unfoldable pub may_send : State → Bool
+may_send s = ltb s.seq (min_al s s.me + window s)
 
 -- the message that a send of these data carries
 unfoldable pub outgoing : State → List ℕ → Message
@@ -26,18 +26,18 @@ unfoldable pub known : State → Message → Bool
 known s p = every 1 s.n (λ k. cond (eqb k p.src) true (leb (at p.ack k) (s.req k)))
 
 -- the least slot from i on that is not among these, at most m further
-abbrev pub firstFree : List ℕ → ℕ → ℕ → ℕ
-firstFree l i zero = i
-firstFree l i (suc m) = cond (among i l) (firstFree l (suc i) m) i
+abbrev pub first_free : List ℕ → ℕ → ℕ → ℕ
+first_free l i zero = i
+first_free l i (suc m) = cond (among i l) (first_free l (suc i) m) i
 
 -- the place that a message of sender j takes: the first of j's that is free
-unfoldable pub freeSlot : State → ℕ → ℕ
-freeSlot s j = firstFree (map (λ (p : Place). p.slot) (from j (taken s))) 0 (4 * s.w)
+unfoldable pub free_slot : State → ℕ → ℕ
+free_slot s j = first_free (map (λ (p : Place). p.slot) (from j (taken s))) 0 (4 * s.w)
 
 unfoldable pub placed : State → Message → Place
-placed s p = record { slot = freeSlot s p.src; src = p.src; seq = p.seq; ack = p.ack; text = p.text }
+placed s p = record { slot = free_slot s p.src; src = p.src; seq = p.seq; ack = p.ack; text = p.text }
 
--- p is accepted, and waits. Kept numbers start at minAL of the own index.
+-- p is accepted, and waits. Kept numbers start at min_al of the own index.
 unfoldable pub stored : State → Message → State
 stored s p =
     let al : ℕ → ℕ → ℕ = column s.al p.src (at p.ack) in
@@ -61,8 +61,8 @@ stored s p =
 -- ---- missing numbers
 
 -- s, with this HEARD
-abbrev pub withHeard : State → (ℕ → ℕ) → State
-withHeard s heard =
+abbrev pub with_heard : State → (ℕ → ℕ) → State
+with_heard s heard =
     record {
       me = s.me;
       n = s.n;
@@ -81,32 +81,32 @@ withHeard s heard =
     }
 
 unfoldable pub noted : State → Message → State
-noted s p = withHeard s (λ k. max (s.heard k) (cond (eqb k p.src) (suc p.seq) (at p.ack k)))
+noted s p = with_heard s (λ k. max (s.heard k) (cond (eqb k p.src) (suc p.seq) (at p.ack k)))
 
 -- the missing numbers of k: from the first up to but not including the second
-abbrev pub missingFrom : State → ℕ → ℕ
-missingFrom s k = s.req k
+abbrev pub missing_from : State → ℕ → ℕ
+missing_from s k = s.req k
 
-abbrev pub missingTo : State → ℕ → ℕ
-missingTo s k = s.heard k
+abbrev pub missing_to : State → ℕ → ℕ
+missing_to s k = s.heard k
 
 -- ---- request
 
 -- the request for what is missing of k
 unfoldable pub asking : State → ℕ → Request
 asking s k =
-    record { cid = s.cid; src = s.me; ack = listed 1 s.n s.req; lsrc = k; lseq = missingTo s k }
+    record { cid = s.cid; src = s.me; ack = listed 1 s.n s.req; lsrc = k; lseq = missing_to s k }
 
 -- number x is kept
-unfoldable pub isKept : State → ℕ → Bool
-isKept s x = leb (minAL s s.me) x && ltb x s.seq
+unfoldable pub is_kept : State → ℕ → Bool
+is_kept s x = leb (min_al s s.me) x && ltb x s.seq
 
 -- the kept numbers that a request asks for: from the first up to but not including the second
-unfoldable pub resentFrom : State → Request → ℕ
-resentFrom s r = max (at r.ack s.me) (minAL s s.me)
+unfoldable pub resent_from : State → Request → ℕ
+resent_from s r = max (at r.ack s.me) (min_al s s.me)
 
-abbrev pub resentTo : State → Request → ℕ
-resentTo s r = r.lseq
+abbrev pub resent_to : State → Request → ℕ
+resent_to s r = r.lseq
 
 -- ---- pre-acknowledge
 
@@ -119,13 +119,13 @@ insert p [] = p ∷ []
 insert p (q ∷ l) = cond (precedes p q) (p ∷ q ∷ l) (q ∷ insert p l)
 
 -- without the oldest of sender j
-abbrev pub withoutOldest : ℕ → List Place → List Place
-withoutOldest j [] = []
-withoutOldest j (q ∷ l) = cond (eqb q.src j) l (q ∷ withoutOldest j l)
+abbrev pub without_oldest : ℕ → List Place → List Place
+without_oldest j [] = []
+without_oldest j (q ∷ l) = cond (eqb q.src j) l (q ∷ without_oldest j l)
 
 -- s, with these lists and PAL
-abbrev pub withLists : State → (ℕ → ℕ → ℕ) → List Place → List Place → List Place → State
-withLists s pal waiting ordered confirmed =
+abbrev pub with_lists : State → (ℕ → ℕ → ℕ) → List Place → List Place → List Place → State
+with_lists s pal waiting ordered confirmed =
     record {
       me = s.me;
       n = s.n;
@@ -146,39 +146,39 @@ withLists s pal waiting ordered confirmed =
 -- p, the oldest waiting message of its sender, is pre-acknowledged
 unfoldable pub preacked : State → Place → State
 preacked s p =
-    withLists s (column s.pal p.src (at p.ack)) (withoutOldest p.src s.waiting) (insert p s.ordered)
+    with_lists s (column s.pal p.src (at p.ack)) (without_oldest p.src s.waiting) (insert p s.ordered)
     s.confirmed
 
--- the messages ps of one sender in turn, while they have SEQ < minAL
-abbrev pub preackWhile : List Place → State → State
-preackWhile [] s = s
-preackWhile (p ∷ ps) s = cond (ltb p.seq (minAL s p.src)) (preackWhile ps (preacked s p)) s
+-- the messages ps of one sender in turn, while they have SEQ < min_al
+abbrev pub preack_while : List Place → State → State
+preack_while [] s = s
+preack_while (p ∷ ps) s = cond (ltb p.seq (min_al s p.src)) (preack_while ps (preacked s p)) s
 
-unfoldable pub preackOf : ℕ → State → State
-preackOf j s = preackWhile (from j s.waiting) s
+unfoldable pub preack_of : ℕ → State → State
+preack_of j s = preack_while (from j s.waiting) s
 
 -- for j = 1 to m
-abbrev pub preackTo : ℕ → State → State
-preackTo zero s = s
-preackTo (suc m) s = preackOf (suc m) (preackTo m s)
+abbrev pub preack_to : ℕ → State → State
+preack_to zero s = s
+preack_to (suc m) s = preack_of (suc m) (preack_to m s)
 
 -- ---- confirm
 
 -- p, the head of the ordered list, is confirmed
 unfoldable pub moved : State → Place → State
-moved s p = withLists s s.pal s.waiting (tail s.ordered) (s.confirmed ++ (p ∷ []))
+moved s p = with_lists s s.pal s.waiting (tail s.ordered) (s.confirmed ++ (p ∷ []))
 
-abbrev pub confirmWhile : List Place → State → State
-confirmWhile [] s = s
-confirmWhile (p ∷ ps) s = cond (ltb p.seq (minPAL s p.src)) (confirmWhile ps (moved s p)) s
+abbrev pub confirm_while : List Place → State → State
+confirm_while [] s = s
+confirm_while (p ∷ ps) s = cond (ltb p.seq (min_pal s p.src)) (confirm_while ps (moved s p)) s
 
 unfoldable pub confirm : State → State
-confirm s = confirmWhile s.ordered s
+confirm s = confirm_while s.ordered s
 
 -- ---- accept, send, take
 
 unfoldable pub accepted : State → Message → State
-accepted s p = confirm (preackTo s.n (stored s p))
+accepted s p = confirm (preack_to s.n (stored s p))
 
 -- s, with m's frame kept and SEQ raised
 abbrev pub keeping : State → Message → State
@@ -205,5 +205,5 @@ unfoldable pub sent : State → Message → State
 sent s m = accepted (keeping s m) m
 
 -- the oldest confirmed message is gone
-unfoldable pub withoutTaken : State → State
-withoutTaken s = withLists s s.pal s.waiting s.ordered (tail s.confirmed)
+unfoldable pub without_taken : State → State
+without_taken s = with_lists s s.pal s.waiting s.ordered (tail s.confirmed)

@@ -4,16 +4,16 @@ use mathlib.Core.List.{List, [], ◌∷◌, ◌++◌, map}
 use Prim.Native.String.{String}
 use lib.ListN.{replicate}
 use Rattle.rules.specs.Maps.{between, upd, column, units}
-use Rattle.rules.specs.Fields.{table, row_of, tagsOf, fieldFits}
-use Rattle.rules.specs.Message.{encode, decode, inLimits, readAs}
-use Rattle.rules.specs.State.{minAL, minPAL, from, free, opened, closed}
-use Rattle.rules.specs.Steps.{window, maySend, outgoing, known, freeSlot, placed, stored, noted, asking, isKept, resentFrom, precedes, preacked, preackOf, moved, confirm, accepted, sent, withoutTaken}
-use Rattle.rules.specs.Sound.{rangesFit, nextsFit, windowFits, placeFits, keptFit, sound}
-use Rattle.rules.specs.Calls.{full, foreign, openChecks, opening, sendChecks, send, dataChecks, arriveData, requestChecks, arriveRequest, arrive, makeChecks, makeRequest, oldest, takeChecks, take}
-use Rattle.script.specs.Lines.{lineFeed}
-use Rattle.script.specs.Items.{is_number, isWord, ofTwo, ofThree, command}
-use Rattle.script.specs.Desk.{openedDesk}
-use Rattle.script.specs.Print.{text, decimal, groupLine, noGroupLine, replyLine}
+use Rattle.rules.specs.Fields.{table, row_of, tags_of, field_fits}
+use Rattle.rules.specs.Message.{encode, decode, in_limits, read_as}
+use Rattle.rules.specs.State.{min_al, min_pal, from, free, opened, closed}
+use Rattle.rules.specs.Steps.{window, may_send, outgoing, known, free_slot, placed, stored, noted, asking, is_kept, resent_from, precedes, preacked, preack_of, moved, confirm, accepted, sent, without_taken}
+use Rattle.rules.specs.Sound.{ranges_fit, nexts_fit, window_fits, place_fits, kept_fit, sound}
+use Rattle.rules.specs.Calls.{full, foreign, open_checks, opening, send_checks, send, data_checks, arrive_data, request_checks, arrive_request, arrive, make_checks, make_request, oldest, take_checks, take}
+use Rattle.script.specs.Lines.{line_feed}
+use Rattle.script.specs.Items.{is_number, is_word, of_two, of_three, command}
+use Rattle.script.specs.Desk.{opened_desk}
+use Rattle.script.specs.Print.{text, decimal, group_line, no_group_line, reply_line}
 use Rattle.script.specs.Script.{in_range, printed}
 
 pub record Case : Type 0 where
@@ -76,14 +76,14 @@ cases = runs ++ firsts ++ laters
 
 pub cases-hold : map (λ (c : Case). printed (text c.script)) cases ≡ map (λ (c : Case). text c.prints) cases
 unfolding runs firsts laters cases
-    between upd column units table row_of tagsOf fieldFits encode decode inLimits readAs minAL minPAL from free opened closed
-    window maySend outgoing known freeSlot placed stored noted asking isKept resentFrom precedes preacked preackOf moved confirm accepted sent withoutTaken
-    rangesFit nextsFit windowFits placeFits keptFit sound
-    full foreign openChecks opening sendChecks send dataChecks arriveData requestChecks arriveRequest arrive makeChecks makeRequest oldest takeChecks take
-    is_number isWord ofTwo ofThree command openedDesk decimal groupLine noGroupLine replyLine in_range printed
+    between upd column units table row_of tags_of field_fits encode decode in_limits read_as min_al min_pal from free opened closed
+    window may_send outgoing known free_slot placed stored noted asking is_kept resent_from precedes preacked preack_of moved confirm accepted sent without_taken
+    ranges_fit nexts_fit window_fits place_fits kept_fit sound
+    full foreign open_checks opening send_checks send data_checks arrive_data request_checks arrive_request arrive make_checks make_request oldest take_checks take
+    is_number is_word of_two of_three command opened_desk decimal group_line no_group_line reply_line in_range printed
 cases-hold = refl
 
 -- the 65th later line is not read
-pub sixty-four : printed (text "G 2 2\n" ++ replicate 64 lineFeed ++ text "S 1 p\n") ≡ printed (text "G 2 2\n" ++ replicate 64 lineFeed)
-unfolding between units opened opening openChecks rangesFit is_number isWord ofTwo ofThree command openedDesk decimal groupLine noGroupLine replyLine in_range printed
+pub sixty-four : printed (text "G 2 2\n" ++ replicate 64 line_feed ++ text "S 1 p\n") ≡ printed (text "G 2 2\n" ++ replicate 64 line_feed)
+unfolding between units opened opening open_checks ranges_fit is_number is_word of_two of_three command opened_desk decimal group_line no_group_line reply_line in_range printed
 sixty-four = refl

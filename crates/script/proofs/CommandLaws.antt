@@ -13,7 +13,7 @@ use Rattle.rules.specs.Maps.{between, all}
 use Rattle.rules.proofs.MapsLaws.{Lt?, lt, ge, lt?, Eq?, same, other, eq?, and_left, and_right, not-true}
 use Rattle.script.proofs.LinesLaws.{length_before}
 use Rattle.script.specs.Lines.{onto, before}
-use Rattle.script.specs.Items.{space, items, isDigit, is_number, value, isPrintable, isWord, unreadable, letter, ofTwo, ofThree, ofItems, command}
+use Rattle.script.specs.Items.{space, items, is_digit, is_number, value, is_printable, is_word, unreadable, letter, of_two, of_three, of_items, command}
 
 -- ---- items
 
@@ -67,13 +67,13 @@ module _ (p : ℕ → Bool) (out : p space ≡ false) where
 spaced : (p : ℕ → Bool) → p space ≡ false → (z : List ℕ) → length (before space z) < length z → all p z ≡ false
 spaced p out z h = not-true (all p z) (λ e. let s : length (before space z) ≡ length z = all-before p out z e in omega arith)
 
-spaced-word : (z : List ℕ) → length (before space z) < length z → isWord z ≡ false
-unfolding isWord between
-spaced-word z h = rw (spaced isPrintable refl z h) (and-false (ltb 0 (length z)))
+spaced-word : (z : List ℕ) → length (before space z) < length z → is_word z ≡ false
+unfolding is_word between
+spaced-word z h = rw (spaced is_printable refl z h) (and-false (ltb 0 (length z)))
 
 spaced-number : (z : List ℕ) → length (before space z) < length z → is_number z ≡ false
 unfolding is_number between
-spaced-number z h = rw (spaced isDigit refl z h) (and-false (ltb 0 (length z) && (eqb (length z) 1 || not (eqb (get_or z 0 0) 48))))
+spaced-number z h = rw (spaced is_digit refl z h) (and-false (ltb 0 (length z) && (eqb (length z) 1 || not (eqb (get_or z 0 0) 48))))
 
 -- ---- commands of items
 
@@ -86,30 +86,30 @@ letter-none [] h = refl
 letter-none (b ∷ []) h = absurd (h refl)
 letter-none (b ∷ c ∷ l) h = refl
 
-ofItems-letter : (x : List ℕ) (l : List (List ℕ)) → (length x ≡ 1 → ⊥) → ofItems (x ∷ l) ≡ unreadable
-unfolding ofTwo ofThree
-ofItems-letter x [] h = refl
-ofItems-letter x (y ∷ []) h = rw (letter-none x h) (cond_same (is_number y) unreadable)
-ofItems-letter x (y ∷ z ∷ []) h = rw (letter-none x h) (cond_same (is_number y) unreadable)
-ofItems-letter x (y ∷ z ∷ t ∷ l) h = refl
+of_items-letter : (x : List ℕ) (l : List (List ℕ)) → (length x ≡ 1 → ⊥) → of_items (x ∷ l) ≡ unreadable
+unfolding of_two of_three
+of_items-letter x [] h = refl
+of_items-letter x (y ∷ []) h = rw (letter-none x h) (cond_same (is_number y) unreadable)
+of_items-letter x (y ∷ z ∷ []) h = rw (letter-none x h) (cond_same (is_number y) unreadable)
+of_items-letter x (y ∷ z ∷ t ∷ l) h = refl
 
-pub ofItems-number : (x y : List ℕ) (l : List (List ℕ)) → is_number y ≡ false → ofItems (x ∷ y ∷ l) ≡ unreadable
-ofItems-number x y [] h = rw h
-ofItems-number x y (z ∷ []) h = rw h
-ofItems-number x y (z ∷ t ∷ l) h = refl
+pub of_items-number : (x y : List ℕ) (l : List (List ℕ)) → is_number y ≡ false → of_items (x ∷ y ∷ l) ≡ unreadable
+of_items-number x y [] h = rw h
+of_items-number x y (z ∷ []) h = rw h
+of_items-number x y (z ∷ t ∷ l) h = refl
 
-ofThree-none : (c u : ℕ) (z : List ℕ) → isWord z ≡ false → is_number z ≡ false → ofThree c u z ≡ unreadable
-unfolding ofThree
-ofThree-none c u z w n = simp (w, n, and-false)
+of_three-none : (c u : ℕ) (z : List ℕ) → is_word z ≡ false → is_number z ≡ false → of_three c u z ≡ unreadable
+unfolding of_three
+of_three-none c u z w n = simp (w, n, and-false)
 
 -- a third item and all that follows it, as they stand in the line
-pub ofItems-rest : (x y z : List ℕ) → ofItems (x ∷ y ∷ items z) ≡ cond (is_number y) (ofThree (letter x) (value y) z) unreadable
-ofItems-rest x y z = go (lt? (length (before space z)) (length z))
+pub of_items-rest : (x y z : List ℕ) → of_items (x ∷ y ∷ items z) ≡ cond (is_number y) (of_three (letter x) (value y) z) unreadable
+of_items-rest x y z = go (lt? (length (before space z)) (length z))
   where
-    go : {t : Bool} → Lt? (length (before space z)) (length z) t → ofItems (x ∷ y ∷ items z) ≡ cond (is_number y) (ofThree (letter x) (value y) z) unreadable
+    go : {t : Bool} → Lt? (length (before space z)) (length z) t → of_items (x ∷ y ∷ items z) ≡ cond (is_number y) (of_three (letter x) (value y) z) unreadable
     go (lt h) =
         let (a, r, e) = items-some (drop (length (before space z) + 1) z) in
-        rw (items_more z h, e, ofThree-none (letter x) (value y) z (spaced-word z h) (spaced-number z h)) (sym (cond_same (is_number y) unreadable))
+        rw (items_more z h, e, of_three-none (letter x) (value y) z (spaced-word z h) (spaced-number z h)) (sym (cond_same (is_number y) unreadable))
     go (ge h) = rw (items-one z (omega (arith, length_before space z)))
 
 -- ---- commands of lines
@@ -126,10 +126,10 @@ command-letter l h = go (lt? (length (before space l)) (length l))
     n : ℕ
     n = length (before space l)
 
-    go : {t : Bool} → Lt? n (length l) t → cond (leb (length l) 80) (ofItems (items l)) unreadable ≡ unreadable
+    go : {t : Bool} → Lt? n (length l) t → cond (leb (length l) 80) (of_items (items l)) unreadable ≡ unreadable
     go (lt x) =
         let short : length (take n l) ≡ n = length-take-le n l (omega arith) in
-        rw (items_more l x, ofItems-letter (take n l) (items (drop (n + 1) l)) (λ e. h (sym short ∙ e))) (cond_same (leb (length l) 80) unreadable)
+        rw (items_more l x, of_items-letter (take n l) (items (drop (n + 1) l)) (λ e. h (sym short ∙ e))) (cond_same (leb (length l) 80) unreadable)
     go (ge x) =
         let whole : n ≡ length l = omega (arith, length_before space l) in
         rw (items-one l whole) (cond_same (leb (length l) 80) unreadable)
@@ -139,7 +139,7 @@ unfolding command
 command-one l h e = rw (items-one l (h ∙ sym e)) (cond_same (leb (length l) 80) unreadable)
 
 pub command-rest : (l : List ℕ) → length l ≤ 80 → length (before space l) ≡ 1 → (length l ≡ 1 → ⊥)
-    → ofItems ((get_or l 0 0 ∷ []) ∷ items (take (length l - 2) (drop 2 l))) ≡ command l
+    → of_items ((get_or l 0 0 ∷ []) ∷ items (take (length l - 2) (drop 2 l))) ≡ command l
 unfolding command
 command-rest l h e o =
     let long : length (before space l) < length l = omega (arith, length_before space l) in

@@ -8,23 +8,23 @@ use lib.ListN.{length}
 use Rattle.rules.specs.Maps.{at}
 use Rattle.rules.specs.Message.{last}
 use Rattle.rules.specs.State.{State}
-use Rattle.rules.specs.Calls.{Result, refusal, makeRequest, makeChecks}
+use Rattle.rules.specs.Calls.{Result, refusal, make_request, make_checks}
 use Rattle.rules.specs.Sound.{sound}
 use Rattle.rules.proofs.MapsLaws.{Lt?, lt, ge, lt?}
 use Rattle.rules.proofs.SoundLaws.{sound-facts}
 use Rattle.script.specs.Items.{Command, groups, sends, arrives, requests, takes, unreadable}
-use Rattle.script.specs.Desk.{Desk, answers, hasUnit, hasFrame, refused, called, wrote, lent, act}
+use Rattle.script.specs.Desk.{Desk, answers, has_unit, has_frame, refused, called, wrote, lent, act}
 use Rattle.script.specs.Shown.{held}
 use Rattle.script.proofs.ItemsLaws.{above-between}
 
 -- the command, with its numbers as 32 bits hold them
-abbrev pub heldIn : Command → Command
-heldIn (groups n w) = groups (held n) (held w)
-heldIn (sends u word) = sends (held u) word
-heldIn (arrives u f) = arrives (held u) (held f)
-heldIn (requests u k) = requests (held u) (held k)
-heldIn (takes u) = takes (held u)
-heldIn unreadable = unreadable
+abbrev pub held_in : Command → Command
+held_in (groups n w) = groups (held n) (held w)
+held_in (sends u word) = sends (held u) word
+held_in (arrives u f) = arrives (held u) (held f)
+held_in (requests u k) = requests (held u) (held k)
+held_in (takes u) = takes (held u)
+held_in unreadable = unreadable
 
 -- ---- a number is held as it is, or it is past whatever has a number
 
@@ -38,32 +38,32 @@ held-cases P x here past = go (lt? last x)
 -- ---- requests
 
 module _ (s : State) (out : List ℕ) where
-  asks-closed : (k : ℕ) → sound s ≡ false → makeRequest s k out ≡ refusal 1 s out 1
-  unfolding makeRequest makeChecks
+  asks-closed : (k : ℕ) → sound s ≡ false → make_request s k out ≡ refusal 1 s out 1
+  unfolding make_request make_checks
   asks-closed k e = rw e
 
-  asks-nobody : (k : ℕ) → 8 < k → sound s ≡ true → makeRequest s k out ≡ refusal 1 s out 5
-  unfolding makeRequest makeChecks
+  asks-nobody : (k : ℕ) → 8 < k → sound s ≡ true → make_request s k out ≡ refusal 1 s out 5
+  unfolding make_request make_checks
   asks-nobody k h e = rw (e, above-between 1 s.n k (omega (arith, (sound-facts s e).ranges.n-high)))
 
-  pub asks-past : (k j : ℕ) → 8 < k → 8 < j → makeRequest s k out ≡ makeRequest s j out
+  pub asks-past : (k j : ℕ) → 8 < k → 8 < j → make_request s k out ≡ make_request s j out
   asks-past k j h i = go (sound s) refl
     where
-      go : (t : Bool) → sound s ≡ t → makeRequest s k out ≡ makeRequest s j out
+      go : (t : Bool) → sound s ≡ t → make_request s k out ≡ make_request s j out
       go true e = asks-nobody k h e ∙ sym (asks-nobody j i e)
       go false e = asks-closed k e ∙ sym (asks-closed j e)
 
 -- ---- commands
 
 module _ (d : Desk) (units : d.n < last) (frames : length d.frames < last) where
-  no-unit : (u : ℕ) → last ≤ u → hasUnit d u ≡ false
+  no-unit : (u : ℕ) → last ≤ u → has_unit d u ≡ false
   no-unit u h = above-between 1 d.n u (omega arith)
 
-  no-frame : (f : ℕ) → last ≤ f → hasFrame d f ≡ false
+  no-frame : (f : ℕ) → last ≤ f → has_frame d f ≡ false
   no-frame f h = above-between 1 (length d.frames) f (omega arith)
 
   -- a command that names no unit of the desk
-  unit-held : (c : ℕ → Command) → ((u : ℕ) → hasUnit d u ≡ false → act d (c u) ≡ refused d) → (u : ℕ) → act d (c (held u)) ≡ act d (c u)
+  unit-held : (c : ℕ → Command) → ((u : ℕ) → has_unit d u ≡ false → act d (c u) ≡ refused d) → (u : ℕ) → act d (c (held u)) ≡ act d (c u)
   unit-held c nobody u =
       held-cases (λ (h : ℕ). act d (c h) ≡ act d (c u)) u refl (λ past. nobody last (no-unit last (omega arith)) ∙ sym (nobody u (no-unit u (omega arith))))
 
@@ -71,16 +71,16 @@ module _ (d : Desk) (units : d.n < last) (frames : length d.frames < last) where
   frame-held u f = held-cases (λ (h : ℕ). act d (arrives u h) ≡ act d (arrives u f)) f refl (λ past. none last (omega arith) ∙ sym (none f (omega arith)))
     where
       none : (g : ℕ) → last ≤ g → act d (arrives u g) ≡ refused d
-      none g h = rw (no-frame g h, and-false (hasUnit d u))
+      none g h = rw (no-frame g h, and-false (has_unit d u))
 
   request-held : (u k : ℕ) → act d (requests u (held k)) ≡ act d (requests u k)
   request-held u k =
       held-cases (λ (h : ℕ). act d (requests u h) ≡ act d (requests u k)) k refl
-      (λ past. ap (λ (r : Result). called d (hasUnit d u) u r (wrote r (at r.numbers 1)) (answers r.answer))
+      (λ past. ap (λ (r : Result). called d (has_unit d u) u r (wrote r (at r.numbers 1)) (answers r.answer))
       (asks-past (d.units u) (lent 117) last k (omega arith) (omega arith)))
 
   -- the desk does the same
-  pub act-held : (c : Command) → act d (heldIn c) ≡ act d c
+  pub act-held : (c : Command) → act d (held_in c) ≡ act d c
   act-held (groups n w) = refl
   act-held (sends u word) = unit-held (λ v. sends v word) (λ v e. rw e) u
   act-held (arrives u f) = unit-held (λ v. arrives v (held f)) (λ v e. rw e) u ∙ frame-held u f

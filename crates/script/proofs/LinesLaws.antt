@@ -10,12 +10,12 @@ use lib.ListN.{length, get_or, drop, length-append, drop_of_length-le}
 use lib.Seq.{append_snoc, drop-cons}
 use borrow.Author.Tests.{lt-ltb, eq-eqb, ne_eqb}
 use Rattle.rules.proofs.MapsLaws.{Eq?, same, other, eq?}
-use Rattle.script.specs.Lines.{onto, lineFeed, lines, before, Found}
+use Rattle.script.specs.Lines.{onto, line_feed, lines, before, Found}
 
 -- the lines of p and then l, where p is the line that is not ended yet
 abbrev pub lines_from : List ℕ → List ℕ → List (List ℕ)
 lines_from p [] = cond (ltb 0 (length p)) (p ∷ []) []
-lines_from p (b ∷ l) = cond (eqb b lineFeed) (p ∷ lines_from [] l) (lines_from (p ++ (b ∷ [])) l)
+lines_from p (b ∷ l) = cond (eqb b line_feed) (p ∷ lines_from [] l) (lines_from (p ++ (b ∷ [])) l)
 
 -- p, before the first of these lines
 abbrev prefixed : List ℕ → List (List ℕ) → List (List ℕ)
@@ -30,17 +30,17 @@ prefixed-snoc : (p : List ℕ) (b : ℕ) (l : List (List ℕ)) → prefixed (p +
 prefixed-snoc p b [] = rw (length-append p (b ∷ []), lt-ltb 0 (length p + 1) (omega arith))
 prefixed-snoc p b (x ∷ l) = ap (λ (y : List ℕ). y ∷ l) (append_snoc p b x)
 
-linesFrom-prefixed : (l p : List ℕ) → lines_from p l ≡ prefixed p (lines l)
-linesFrom-prefixed [] p = refl
-linesFrom-prefixed (b ∷ l) p = go (eq? b lineFeed) (linesFrom-prefixed l)
+lines_from-prefixed : (l p : List ℕ) → lines_from p l ≡ prefixed p (lines l)
+lines_from-prefixed [] p = refl
+lines_from-prefixed (b ∷ l) p = go (eq? b line_feed) (lines_from-prefixed l)
   where
-    go : {t : Bool} → Eq? b lineFeed t → ((q : List ℕ) → lines_from q l ≡ prefixed q (lines l))
+    go : {t : Bool} → Eq? b line_feed t → ((q : List ℕ) → lines_from q l ≡ prefixed q (lines l))
         → cond t (p ∷ lines_from [] l) (lines_from (p ++ (b ∷ [])) l) ≡ prefixed p (cond t ([] ∷ lines l) (onto b (lines l)))
     go (same e) ih = rw (append-nil p, ih [], prefixed-nil (lines l))
     go (other e) ih = ih (p ++ (b ∷ [])) ∙ prefixed-snoc p b (lines l)
 
-pub linesFrom-nil : (l : List ℕ) → lines_from [] l ≡ lines l
-linesFrom-nil l = linesFrom-prefixed l [] ∙ prefixed-nil (lines l)
+pub lines_from-nil : (l : List ℕ) → lines_from [] l ≡ lines l
+lines_from-nil l = lines_from-prefixed l [] ∙ prefixed-nil (lines l)
 
 -- ---- looking for a byte
 

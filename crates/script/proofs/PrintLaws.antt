@@ -9,7 +9,7 @@ use lib.ListN.{length, get_or, length-append, get_or-append}
 use borrow.Author.Tests.{lt-ltb, le-ltb, ne_eqb}
 use Rattle.rules.specs.Maps.{all}
 use Rattle.rules.proofs.MapsLaws.{Lt?, lt, ge, lt?, and_intro, is-between, all_append}
-use Rattle.script.specs.Items.{isDigit, is_number, valueFrom, value}
+use Rattle.script.specs.Items.{is_digit, is_number, value_from, value}
 use Rattle.script.specs.Print.{digits, decimal}
 
 -- steps that are enough come to the same
@@ -66,13 +66,13 @@ decimal-induct P one more x = up (suc x) x (omega arith)
 
 pub record Says (x : ℕ) (l : List ℕ) : Type 0 where
   pub value-is : value l ≡ x
-  pub digits_are : all isDigit l ≡ true
+  pub digits_are : all is_digit l ≡ true
   pub some : 0 < length l
   pub no_zero : 0 < x → 48 < get_or l 0 0
 
-valueFrom-snoc : (l : List ℕ) (v b : ℕ) → valueFrom v (l ++ (b ∷ [])) ≡ valueFrom v l * 10 + (b - 48)
-valueFrom-snoc [] v b = refl
-valueFrom-snoc (a ∷ l) v b = valueFrom-snoc l (v * 10 + (a - 48)) b
+value_from-snoc : (l : List ℕ) (v b : ℕ) → value_from v (l ++ (b ∷ [])) ≡ value_from v l * 10 + (b - 48)
+value_from-snoc [] v b = refl
+value_from-snoc (a ∷ l) v b = value_from-snoc l (v * 10 + (a - 48)) b
 
 decimal-says : (x : ℕ) → Says x (decimal x)
 decimal-says = decimal-induct Says one more
@@ -80,7 +80,7 @@ decimal-says = decimal-induct Says one more
     one : (x : ℕ) → x < 10 → Says x ((48 + x) ∷ [])
     one x h = record {
       value-is = omega arith;
-      digits_are = and_intro (isDigit (48 + x)) true (is-between 48 57 (48 + x) (omega arith) (omega arith)) refl;
+      digits_are = and_intro (is_digit (48 + x)) true (is-between 48 57 (48 + x) (omega arith) (omega arith)) refl;
       some = omega arith;
       no_zero = λ p. omega arith;
     }
@@ -89,8 +89,8 @@ decimal-says = decimal-induct Says one more
     more x h w =
         let d : List ℕ = (48 + x % 10) ∷ [] in
         record {
-          value-is = valueFrom-snoc (decimal (x / 10)) 0 (48 + x % 10) ∙ omega (arith, w.value-is);
-          digits_are = all_append isDigit (decimal (x / 10)) d ∙ rw (w.digits_are, is-between 48 57 (48 + x % 10) (omega arith) (omega arith));
+          value-is = value_from-snoc (decimal (x / 10)) 0 (48 + x % 10) ∙ omega (arith, w.value-is);
+          digits_are = all_append is_digit (decimal (x / 10)) d ∙ rw (w.digits_are, is-between 48 57 (48 + x % 10) (omega arith) (omega arith));
           some = omega (arith, w.some, length-append (decimal (x / 10)) d);
           no_zero = λ p. rw (get_or-append (decimal (x / 10)) d 0 0 w.some) (w.no_zero (omega arith));
         }

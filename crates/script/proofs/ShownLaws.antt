@@ -12,10 +12,10 @@ use borrow.Author.Tests.{ne_eqb}
 use Rattle.rules.specs.Message.{last}
 use Rattle.rules.proofs.MapsLaws.{Lt?, lt, ge, lt?}
 use Rattle.script.specs.Lines.{before, Found}
-use Rattle.script.specs.Items.{space, items, is_number, value, isWord, Command, groups, sends, arrives, requests, takes, unreadable, ofTwo, ofThree, ofItems}
-use Rattle.script.specs.Shown.{held, valueIn, shown, ofNumbers}
+use Rattle.script.specs.Items.{space, items, is_number, value, is_word, Command, groups, sends, arrives, requests, takes, unreadable, of_two, of_three, of_items}
+use Rattle.script.specs.Shown.{held, value_in, shown, of_numbers}
 use Rattle.script.proofs.LinesLaws.{length_before}
-use Rattle.script.proofs.CommandLaws.{items-one, items_more, take_rest, ofItems-number, ofItems-rest}
+use Rattle.script.proofs.CommandLaws.{items-one, items_more, take_rest, of_items-number, of_items-rest}
 use Rattle.script.specs.declared.item.Value.TheVariants.{Is, None}
 use Rattle.script.specs.declared.line.Line.TheVariants.{Group, Send, Arrive, Request, Take, Unreadable}
 
@@ -27,9 +27,9 @@ held_fits x h = omega arith
 held-held : (x : ℕ) → held (held x) ≡ held x
 held-held x = omega arith
 
-pub valueIn-none : (l : List ℕ) → valueIn l ≡ None → is_number l ≡ false
-unfolding valueIn
-valueIn-none l e = go (is_number l) e
+pub value_in-none : (l : List ℕ) → value_in l ≡ None → is_number l ≡ false
+unfolding value_in
+value_in-none l e = go (is_number l) e
   where
     go : (t : Bool) → cond t (Is (held (value l))) None ≡ None → t ≡ false
     go true e = let z : ◌≡◌ {A = ℕ} 0 1 = cc in absurd (omega arith)
@@ -40,9 +40,9 @@ pub record Number (l : List ℕ) (x : ℕ) : Type 0 where
   pub is : is_number l ≡ true
   pub value-is : x ≡ held (value l)
 
-pub valueIn-is : (l : List ℕ) (x : ℕ) → valueIn l ≡ Is x → Number l x
-unfolding valueIn
-valueIn-is l x e = go (is_number l) refl e
+pub value_in-is : (l : List ℕ) (x : ℕ) → value_in l ≡ Is x → Number l x
+unfolding value_in
+value_in-is l x e = go (is_number l) refl e
   where
     go : (t : Bool) → is_number l ≡ t → cond t (Is (held (value l))) None ≡ Is x → Number l x
     go true p e = record { is = p; value-is = cc }
@@ -50,8 +50,8 @@ valueIn-is l x e = go (is_number l) refl e
 
 -- ---- lines of two items
 
-pub shown-two : (c u : ℕ) → shown (ofTwo c (held u)) ≡ shown (ofTwo c u)
-unfolding shown ofTwo
+pub shown-two : (c u : ℕ) → shown (of_two c (held u)) ≡ shown (of_two c u)
+unfolding shown of_two
 shown-two c u = go (eqb c (code "T"))
   where
     go : (t : Bool) → shown (cond t (takes (held u)) unreadable) ≡ shown (cond t (takes u) unreadable)
@@ -63,10 +63,10 @@ shown-two c u = go (eqb c (code "T"))
 -- what holds of each command of three items holds of the one that they are
 module _ (c : ℕ) (z : List ℕ) (P : (ℕ → Command) → Type 0) where
   pub three-cases : P (λ u. sends u z) → P (λ u. groups u (value z)) → P (λ u. arrives u (value z)) → P (λ u. requests u (value z))
-      → P (λ u. unreadable) → P (λ u. ofThree c u z)
-  unfolding ofThree
+      → P (λ u. unreadable) → P (λ u. of_three c u z)
+  unfolding of_three
   three-cases s g a r n =
-      go (eqb c (code "S") && isWord z) (eqb c (code "G") && is_number z) (eqb c (code "A") && is_number z) (eqb c (code "R") && is_number z)
+      go (eqb c (code "S") && is_word z) (eqb c (code "G") && is_number z) (eqb c (code "A") && is_number z) (eqb c (code "R") && is_number z)
     where
       go : (x y v w : Bool)
           → P (λ u. cond x (sends u z) (cond y (groups u (value z)) (cond v (arrives u (value z)) (cond w (requests u (value z)) unreadable))))
@@ -76,7 +76,7 @@ module _ (c : ℕ) (z : List ℕ) (P : (ℕ → Command) → Type 0) where
       go false false false true = r
       go false false false false = n
 
-pub shown-three : (c u : ℕ) (z : List ℕ) → shown (ofThree c (held u) z) ≡ shown (ofThree c u z)
+pub shown-three : (c u : ℕ) (z : List ℕ) → shown (of_three c (held u) z) ≡ shown (of_three c u z)
 unfolding shown
 shown-three c u z =
     three-cases c z (λ f. shown (f (held u)) ≡ shown (f u)) (ap (λ (x : ℕ). Send x (length z)) (held-held u))
@@ -86,20 +86,20 @@ shown-three c u z =
     refl
 
 module _ (c u : ℕ) (z : List ℕ) (fits : u ≤ last) where
-  pub shown-send : c ≡ code "S" → isWord z ≡ true → Send u (length z) ≡ shown (ofThree c u z)
-  unfolding shown ofThree
+  pub shown-send : c ≡ code "S" → is_word z ≡ true → Send u (length z) ≡ shown (of_three c u z)
+  unfolding shown of_three
   shown-send e w = rw (e, w, held_fits u fits)
 
-  pub shown-no-word : c ≡ code "S" → isWord z ≡ false → Unreadable ≡ shown (ofThree c u z)
-  unfolding shown ofThree
+  pub shown-no-word : c ≡ code "S" → is_word z ≡ false → Unreadable ≡ shown (of_three c u z)
+  unfolding shown of_three
   shown-no-word e w = rw (e, w)
 
-  pub shown-no-number : (c ≡ code "S" → ⊥) → is_number z ≡ false → Unreadable ≡ shown (ofThree c u z)
-  unfolding shown ofThree
+  pub shown-no-number : (c ≡ code "S" → ⊥) → is_number z ≡ false → Unreadable ≡ shown (of_three c u z)
+  unfolding shown of_three
   shown-no-number e n = rw (ne_eqb c (code "S") e) (simp (n, and-false))
 
-  pub shown-numbered : (x : ℕ) → (c ≡ code "S" → ⊥) → Number z x → ofNumbers c u x ≡ shown (ofThree c u z)
-  unfolding shown ofThree ofNumbers
+  pub shown-numbered : (x : ℕ) → (c ≡ code "S" → ⊥) → Number z x → of_numbers c u x ≡ shown (of_three c u z)
+  unfolding shown of_three of_numbers
   shown-numbered x e n =
       rw (ne_eqb c (code "S") e, n.is, n.value-is) (simp and-true (go (eqb c (code "G")) (eqb c (code "A")) (eqb c (code "R"))))
     where
@@ -124,27 +124,27 @@ items-first s = go (lt? (length (before space s)) (length s))
     go (ge h) = ([], items-one s (omega (arith, length_before space s)) ∙ ap (λ (x : List ℕ). x ∷ []) (sym (take_all (length (before space s)) s h)))
 
 module _ (c e : ℕ) (s : List ℕ) (f : Found s space e) where
-  pub after_none : valueIn (take e s) ≡ None → Unreadable ≡ shown (ofItems ((c ∷ []) ∷ items s))
+  pub after_none : value_in (take e s) ≡ None → Unreadable ≡ shown (of_items ((c ∷ []) ∷ items s))
   unfolding shown
   after_none h =
       let (r, i) = items-first s in
-      rw (i, ← f.place, ofItems-number (c ∷ []) (take e s) r (valueIn-none (take e s) h))
+      rw (i, ← f.place, of_items-number (c ∷ []) (take e s) r (value_in-none (take e s) h))
 
-  pub after_two : (u : ℕ) → e ≡ length s → valueIn (take e s) ≡ Is u → shown (ofTwo c u) ≡ shown (ofItems ((c ∷ []) ∷ items s))
+  pub after_two : (u : ℕ) → e ≡ length s → value_in (take e s) ≡ Is u → shown (of_two c u) ≡ shown (of_items ((c ∷ []) ∷ items s))
   after_two u w h =
-      let n : Number s u = valueIn-is s u (rw (take_all e s (omega arith)) at h) in
+      let n : Number s u = value_in-is s u (rw (take_all e s (omega arith)) at h) in
       rw (items-one s (sym f.place ∙ w), n.is, n.value-is) (shown-two c (value s))
 
-  pub after-three : (u : ℕ) → (e ≡ length s → ⊥) → valueIn (take e s) ≡ Is u
-      → shown (ofThree c u (take (length s - (e + 1)) (drop (e + 1) s))) ≡ shown (ofItems ((c ∷ []) ∷ items s))
+  pub after-three : (u : ℕ) → (e ≡ length s → ⊥) → value_in (take e s) ≡ Is u
+      → shown (of_three c u (take (length s - (e + 1)) (drop (e + 1) s))) ≡ shown (of_items ((c ∷ []) ∷ items s))
   after-three u w h =
       let long : length (before space s) < length s = omega (arith, f.place, f.within) in
-      let n : Number (take e s) u = valueIn-is (take e s) u h in
+      let n : Number (take e s) u = value_in-is (take e s) u h in
       rw (
         take_rest (e + 1) s,
         items_more s long,
         ← f.place,
-        ofItems-rest (c ∷ []) (take e s) (drop (e + 1) s),
+        of_items-rest (c ∷ []) (take e s) (drop (e + 1) s),
         n.is,
         n.value-is,
       ) (shown-three c (value (take e s)) (drop (e + 1) s))

@@ -9,10 +9,10 @@ use lib.Seq.{sets, length-sets, append_snoc}
 use borrow.Author.Tests.{le-leb, lt-leb}
 use Rattle.rules.specs.Message.{last}
 use Rattle.rules.proofs.StoresLaws.{sets-++, set-sets, sets-written}
-use Rattle.script.specs.Lines.{lineFeed}
+use Rattle.script.specs.Lines.{line_feed}
 use Rattle.script.specs.Items.{space, glued}
 use Rattle.script.specs.Desk.{took}
-use Rattle.script.specs.Print.{decimal, joined, replyItems}
+use Rattle.script.specs.Print.{decimal, joined, reply_items}
 use Rattle.script.specs.Written.{Put, Wrote}
 use Rattle.script.proofs.PrintLaws.{decimal-one, decimal-more, length-one, length_more, length-decimal}
 
@@ -30,7 +30,7 @@ put_then {out} {mid} {after} {a} {b} {at} {next} {end} p q = record {
 
 -- an item, a space, and the rest of the line
 joined-item : (x y : List ℕ) (l : List (List ℕ)) → joined (x ∷ y ∷ l) ≡ x ++ (space ∷ joined (y ∷ l))
-joined-item x y l = append_assoc x (space ∷ glued (y ∷ l)) (lineFeed ∷ [])
+joined-item x y l = append_assoc x (space ∷ glued (y ∷ l)) (line_feed ∷ [])
 
 pub put_item : (x y : List ℕ) (l : List (List ℕ)) {out mid after : List ℕ} {at next end : ℕ}
     → Put out at (x ++ (space ∷ [])) next mid → Put mid next (joined (y ∷ l)) end after → Put out at (joined (x ∷ y ∷ l)) end after
@@ -40,10 +40,10 @@ pub length-joined : (x y : List ℕ) (l : List (List ℕ)) → length (joined (x
 length-joined x y l = ap length (joined-item x y l) ∙ length-append x (space ∷ joined (y ∷ l)) ∙ omega arith
 
 pub length-joined-last : (x : List ℕ) → length (joined (x ∷ [])) ≡ length x + 1
-length-joined-last x = length-append x (lineFeed ∷ [])
+length-joined-last x = length-append x (line_feed ∷ [])
 
 pub length_taken : (j x : ℕ) (word : List ℕ)
-    → length (joined (replyItems (took j x word))) ≡ length (decimal j) + length (decimal x) + length word + 5
+    → length (joined (reply_items (took j x word))) ≡ length (decimal j) + length (decimal x) + length word + 5
 unfolding decimal
 length_taken j x word =
     omega (

@@ -2,8 +2,8 @@
 use Rattle.std.specs.Prelude.{Bool, cond, ◌&&◌, List, [], ◌∷◌, ◌++◌, ℕ, ◌-◌, eqb, length, get_or, take, replicate}
 use Rattle.rules.specs.Maps.{between, upd, at}
 use Rattle.rules.specs.State.{State}
-use Rattle.rules.specs.Calls.{Result, opening, send, arrive, makeRequest}
-use Rattle.rules.specs.Calls.{take as takeOnce}
+use Rattle.rules.specs.Calls.{Result, opening, send, arrive, make_request}
+use Rattle.rules.specs.Calls.{take as take_once}
 use Rattle.script.specs.Items.{Command, groups, sends, arrives, requests, takes, unreadable}
 
 -- the units 1 to n, and the frames, counted from 1 as they are written
@@ -13,8 +13,8 @@ pub record Desk : Type 0 where
   pub frames : List (List ℕ)
 
 -- a group with window w, CID 1, first numbers 1
-unfoldable pub openedDesk : ℕ → ℕ → Desk
-openedDesk n w = record { n = n; units = λ u. (opening u n w 1 (λ k. 1)).unit; frames = [] }
+unfoldable pub opened_desk : ℕ → ℕ → Desk
+opened_desk n w = record { n = n; units = λ u. (opening u n w 1 (λ k. 1)).unit; frames = [] }
 
 -- what is printed for a command: `?`, an answer number, or what a successful take adds to its answer
 pub data Reply : Type 0 where
@@ -26,11 +26,11 @@ pub record Acted : Type 0 where
   pub desk : Desk
   pub reply : Reply
 
-abbrev pub hasUnit : Desk → ℕ → Bool
-hasUnit d u = between 1 d.n u
+abbrev pub has_unit : Desk → ℕ → Bool
+has_unit d u = between 1 d.n u
 
-abbrev pub hasFrame : Desk → ℕ → Bool
-hasFrame d f = between 1 (length d.frames) f
+abbrev pub has_frame : Desk → ℕ → Bool
+has_frame d f = between 1 (length d.frames) f
 
 abbrev pub frame_of : Desk → ℕ → List ℕ
 frame_of d f = get_or d.frames (f - 1) []
@@ -64,14 +64,14 @@ abbrev pub act : Desk → Command → Acted
 act d (groups n w) = refused d
 act d (sends u word) =
     let r : Result = send (d.units u) word (lent 117) in
-    called d (hasUnit d u) u r (wrote r (at r.numbers 2)) (answers r.answer)
+    called d (has_unit d u) u r (wrote r (at r.numbers 2)) (answers r.answer)
 act d (arrives u f) =
     let r : Result = arrive (d.units u) (frame_of d f) in
-    called d (hasUnit d u && hasFrame d f) u r [] (answers r.answer)
+    called d (has_unit d u && has_frame d f) u r [] (answers r.answer)
 act d (requests u k) =
-    let r : Result = makeRequest (d.units u) k (lent 117) in
-    called d (hasUnit d u) u r (wrote r (at r.numbers 1)) (answers r.answer)
+    let r : Result = make_request (d.units u) k (lent 117) in
+    called d (has_unit d u) u r (wrote r (at r.numbers 1)) (answers r.answer)
 act d (takes u) =
-    let r : Result = takeOnce (d.units u) (lent 48) in
-    called d (hasUnit d u) u r [] (taking r)
+    let r : Result = take_once (d.units u) (lent 48) in
+    called d (has_unit d u) u r [] (taking r)
 act d unreadable = refused d

@@ -8,8 +8,8 @@ unfoldable pub emptied : Collector
 emptied = record { bytes = replicate longest 0; len = 0; long = false }
 
 -- the line that it holds
-abbrev pub begunOf : Collector → Begun
-begunOf c = record { bytes = take c.len c.bytes; long = c.long }
+abbrev pub begun_of : Collector → Begun
+begun_of c = record { bytes = take c.len c.bytes; long = c.long }
 
 -- a further byte: it is stored, or the line is too long
 abbrev pub storing : Collector → ℕ → Collector
@@ -24,4 +24,4 @@ pushed c b = cond (ltb c.len longest) (storing c b) (overrun c)
 -- r is c with a further byte
 pub record Pushed (c : Collector) (b : ℕ) (r : Collector) : Type 0 where
   pub exact : r ≡ pushed c b
-  pub means : begunOf r ≡ longer (begunOf c) b
+  pub means : begun_of r ≡ longer (begun_of c) b

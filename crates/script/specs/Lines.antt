@@ -11,12 +11,12 @@ abbrev pub parted : ℕ → List (List ℕ) → List ℕ → List (List ℕ)
 parted c rest [] = rest
 parted c rest (b ∷ l) = cond (eqb b c) ([] ∷ parted c rest l) (onto b (parted c rest l))
 
-abbrev pub lineFeed : ℕ
-lineFeed = 10
+abbrev pub line_feed : ℕ
+line_feed = 10
 
 -- A line feed ends a line. After a final one nothing follows; a last line without one counts.
 abbrev pub lines : List ℕ → List (List ℕ)
-lines l = parted lineFeed [] l
+lines l = parted line_feed [] l
 
 -- lines are at most this many bytes, their line feed not counted
 abbrev pub longest : ℕ

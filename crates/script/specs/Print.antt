@@ -2,7 +2,7 @@
 use Rattle.std.specs.Prelude.{cond, List, [], ◌∷◌, ◌++◌, ℕ, zero, suc, ◌+◌, ◌/◌, ◌%◌, ltb}
 use Prim.Native.Char.{code}
 use Prim.Native.String.{String}
-use Rattle.script.specs.Lines.{lineFeed}
+use Rattle.script.specs.Lines.{line_feed}
 use Rattle.script.specs.Items.{glued}
 use Rattle.script.specs.Desk.{Reply, unknown, answers, took}
 
@@ -23,21 +23,21 @@ decimal x = digits (suc x) x
 
 -- a line of these items, ended
 abbrev pub joined : List (List ℕ) → List ℕ
-joined l = glued l ++ (lineFeed ∷ [])
+joined l = glued l ++ (line_feed ∷ [])
 
 -- ---- the lines
 
-unfoldable pub groupLine : ℕ → ℕ → List ℕ
-groupLine n w = joined (text "group" ∷ decimal n ∷ decimal w ∷ [])
+unfoldable pub group_line : ℕ → ℕ → List ℕ
+group_line n w = joined (text "group" ∷ decimal n ∷ decimal w ∷ [])
 
-unfoldable pub noGroupLine : List ℕ
-noGroupLine = joined (text "group" ∷ text "?" ∷ [])
+unfoldable pub no_group_line : List ℕ
+no_group_line = joined (text "group" ∷ text "?" ∷ [])
 
-abbrev pub replyItems : Reply → List (List ℕ)
-replyItems unknown = text "?" ∷ []
-replyItems (answers a) = decimal a ∷ []
-replyItems (took j x word) = decimal 0 ∷ decimal j ∷ decimal x ∷ word ∷ []
+abbrev pub reply_items : Reply → List (List ℕ)
+reply_items unknown = text "?" ∷ []
+reply_items (answers a) = decimal a ∷ []
+reply_items (took j x word) = decimal 0 ∷ decimal j ∷ decimal x ∷ word ∷ []
 
 -- line number k, and the reply
-unfoldable pub replyLine : ℕ → Reply → List ℕ
-replyLine k p = joined (decimal k ∷ replyItems p)
+unfoldable pub reply_line : ℕ → Reply → List ℕ
+reply_line k p = joined (decimal k ∷ reply_items p)

@@ -3,7 +3,7 @@ use Rattle.std.specs.Prelude.{cond, List, ℕ, ◌-◌, min, eqb, length, drop}
 use Prim.Native.Char.{code}
 use Rattle.rules.specs.Maps.{all}
 use Rattle.rules.specs.Message.{last}
-use Rattle.script.specs.Items.{isDigit, is_number, valueFrom, value, Command, groups, sends, arrives, requests, takes, unreadable}
+use Rattle.script.specs.Items.{is_digit, is_number, value_from, value, Command, groups, sends, arrives, requests, takes, unreadable}
 use Rattle.script.specs.Script.{in_range}
 use Rattle.script.specs.declared.item.Value.{Value}
 use Rattle.script.specs.declared.item.Value.TheVariants.{Is}
@@ -18,15 +18,15 @@ use Rattle.script.specs.declared.line.Group.TheVariants.{None as NoGroup}
 abbrev pub held : ℕ → ℕ
 held x = min x last
 
-unfoldable pub digitOf : ℕ → ℕ
-digitOf b = cond (isDigit b) (b - 48) 10
+unfoldable pub digit_of : ℕ → ℕ
+digit_of b = cond (is_digit b) (b - 48) 10
 
 -- v with further digits
-unfoldable pub digitsFrom : ℕ → List ℕ → Value
-digitsFrom v l = cond (all isDigit l) (Is (held (valueFrom v l))) NoValue
+unfoldable pub digits_from : ℕ → List ℕ → Value
+digits_from v l = cond (all is_digit l) (Is (held (value_from v l))) NoValue
 
-unfoldable pub valueIn : List ℕ → Value
-valueIn l = cond (is_number l) (Is (held (value l))) NoValue
+unfoldable pub value_in : List ℕ → Value
+value_in l = cond (is_number l) (Is (held (value l))) NoValue
 
 unfoldable pub shown : Command → Line
 shown (groups n w) = Group (held n) (held w)
@@ -46,15 +46,15 @@ said (Take u) l = takes u
 said Unreadable l = unreadable
 
 -- letter c and two numbers
-unfoldable pub ofNumbers : ℕ → ℕ → ℕ → Line
-ofNumbers c u x =
+unfoldable pub of_numbers : ℕ → ℕ → ℕ → Line
+of_numbers c u x =
     cond (eqb c (code "G")) (Group u x)
     (cond (eqb c (code "A")) (Arrive u x) (cond (eqb c (code "R")) (Request u x) Unreadable))
 
-unfoldable pub groupIn : Line → Opening
-groupIn (Group n w) = cond (in_range n w) (Of n w) NoGroup
-groupIn (Send u len) = NoGroup
-groupIn (Arrive u f) = NoGroup
-groupIn (Request u k) = NoGroup
-groupIn (Take u) = NoGroup
-groupIn Unreadable = NoGroup
+unfoldable pub group_in : Line → Opening
+group_in (Group n w) = cond (in_range n w) (Of n w) NoGroup
+group_in (Send u len) = NoGroup
+group_in (Arrive u f) = NoGroup
+group_in (Request u k) = NoGroup
+group_in (Take u) = NoGroup
+group_in Unreadable = NoGroup

@@ -1,8 +1,8 @@
 // The line that is being read, from the parts in which the input comes.
 ghost use Rattle.std.specs.Prelude.{◌≡◌, ◌≤◌, length};
-ghost use Rattle.script.specs.Reader.{commandIn};
+ghost use Rattle.script.specs.Reader.{command_in};
 ghost use Rattle.script.specs.Shown.{shown};
-ghost use Rattle.script.specs.Gathered.{emptied, Pushed, begunOf};
+ghost use Rattle.script.specs.Gathered.{emptied, Pushed, begun_of};
 
 use crate::line;
 use crate::line::Line;
@@ -41,7 +41,7 @@ impl Collector {
 
     // How many of the bytes are the line's.
     pub fn size(self) -> usize
-        ensures { (result ≡ length (begunOf self).bytes) × (result ≤ 80) }
+        ensures { (result ≡ length (begun_of self).bytes) × (result ≤ 80) }
     {
         let n = self.len;
         if n < line::LONGEST {
@@ -51,7 +51,7 @@ impl Collector {
     }
 
     pub fn read(self) -> Line
-        ensures { result ≡ shown (commandIn (begunOf self)) }
+        ensures { result ≡ shown (command_in (begun_of self)) }
     {
         if self.long {
             return Line::Unreadable;

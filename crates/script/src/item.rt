@@ -1,7 +1,7 @@
 // The items of a line: numbers and words.
 ghost use Rattle.std.specs.Prelude.{◌≡◌, ◌+◌, ◌*◌, ◌<◌};
-ghost use Rattle.script.specs.Items.{isPrintable, isWord};
-ghost use Rattle.script.specs.Shown.{digitOf, held, digitsFrom, valueIn};
+ghost use Rattle.script.specs.Items.{is_printable, is_word};
+ghost use Rattle.script.specs.Shown.{digit_of, held, digits_from, value_in};
 
 // What an item says as a number. One that passes 32 bits counts as 4,294,967,295.
 #[derive(Drop)]
@@ -12,7 +12,7 @@ pub enum Value {
 
 // A digit's value, and 10 for any other byte.
 fn digit(b: u8) -> u32
-    ensures { result ≡ digitOf b }
+    ensures { result ≡ digit_of b }
 {
     if b < b'0' {
         return 10;
@@ -36,7 +36,7 @@ fn extended(v: u32, d: u32) -> u32
 }
 
 pub fn number(s: &[u8]) -> Value
-    ensures { result ≡ valueIn s.now }
+    ensures { result ≡ value_in s.now }
 {
     if s.len() == 0 {
         return Value::None;
@@ -52,7 +52,7 @@ pub fn number(s: &[u8]) -> Value
 
 // The value of digits alone, with or without leading zeros.
 fn digits(s: &[u8]) -> Value
-    ensures { result ≡ digitsFrom 0 s.now }
+    ensures { result ≡ digits_from 0 s.now }
 {
     let mut v: u32 = 0;
     let mut i = 0;
@@ -68,7 +68,7 @@ fn digits(s: &[u8]) -> Value
 }
 
 fn is_printable(b: u8) -> bool
-    ensures { result ≡ isPrintable b }
+    ensures { result ≡ is_printable b }
 {
     if b < b'!' {
         return false;
@@ -77,7 +77,7 @@ fn is_printable(b: u8) -> bool
 }
 
 pub fn is_word(s: &[u8]) -> bool
-    ensures { result ≡ isWord s.now }
+    ensures { result ≡ is_word s.now }
 {
     let mut i = 0;
     while i < s.len() {

@@ -1,8 +1,8 @@
 // A line of a script, read.
 ghost use Rattle.std.specs.Prelude.{◌≡◌, [], ◌∷◌};
-ghost use Rattle.script.specs.Items.{items, ofItems, ofTwo, ofThree, command};
+ghost use Rattle.script.specs.Items.{items, of_items, of_two, of_three, command};
 ghost use Rattle.script.specs.Script.{in_range};
-ghost use Rattle.script.specs.Shown.{shown, ofNumbers, groupIn};
+ghost use Rattle.script.specs.Shown.{shown, of_numbers, group_in};
 
 use crate::item::Value;
 use crate::{bytes, item};
@@ -47,7 +47,7 @@ pub fn read(s: &[u8]) -> Line
 
 // The line of letter c and the items in s.
 fn after_letter(c: u8, s: &[u8]) -> Line
-    ensures { result ≡ shown (ofItems ((c ∷ []) ∷ items s.now)) }
+    ensures { result ≡ shown (of_items ((c ∷ []) ∷ items s.now)) }
 {
     let e = bytes::find(s, b' ');
     let Value::Is(u) = item::number(&s[..e]) else {
@@ -60,7 +60,7 @@ fn after_letter(c: u8, s: &[u8]) -> Line
 }
 
 fn of_two(c: u8, u: u32) -> Line
-    ensures { result ≡ shown (ofTwo c u) }
+    ensures { result ≡ shown (of_two c u) }
 {
     if c == b'T' {
         return Line::Take { unit: u };
@@ -69,7 +69,7 @@ fn of_two(c: u8, u: u32) -> Line
 }
 
 fn of_three(c: u8, u: u32, z: &[u8]) -> Line
-    ensures { result ≡ shown (ofThree c u z.now) }
+    ensures { result ≡ shown (of_three c u z.now) }
 {
     if c == b'S' {
         if item::is_word(z) {
@@ -88,7 +88,7 @@ fn of_three(c: u8, u: u32, z: &[u8]) -> Line
 
 // The line of letter c and two numbers.
 fn numbered(c: u8, u: u32, x: u32) -> Line
-    ensures { result ≡ ofNumbers c u x }
+    ensures { result ≡ of_numbers c u x }
 {
     match c {
         b'G' => Line::Group { n: u, w: x },
@@ -114,7 +114,7 @@ fn in_range(n: u32, w: u32) -> bool
 }
 
 pub fn group_of(l: Line) -> Group
-    ensures { result ≡ groupIn l }
+    ensures { result ≡ group_in l }
 {
     let Line::Group { n, w } = l else {
         return Group::None;

@@ -2,7 +2,7 @@
 // short, which is then unchanged.
 ghost use Rattle.std.specs.Prelude.{◌≡◌, [], ◌∷◌, ◌++◌, ◌+◌, ◌≤◌, length};
 ghost use Rattle.script.specs.Desk.{unknown, answers, took};
-ghost use Rattle.script.specs.Print.{decimal, joined, groupLine, noGroupLine, replyItems, replyLine};
+ghost use Rattle.script.specs.Print.{decimal, joined, group_line, no_group_line, reply_items, reply_line};
 ghost use Rattle.script.specs.Written.{Put, Wrote};
 
 use tables;
@@ -48,7 +48,7 @@ fn put(out: &mut [u8], at: usize, s: &[u8]) -> usize
 }
 
 pub fn group_line(out: &mut [u8], n: u32, w: u32) -> usize
-    ensures { Wrote out.old (groupLine n w) result out.new }
+    ensures { Wrote out.old (group_line n w) result out.new }
 {
     if out.len() < places(n) + places(w) + 8 {
         return 0;
@@ -59,7 +59,7 @@ pub fn group_line(out: &mut [u8], n: u32, w: u32) -> usize
 }
 
 pub fn no_group_line(out: &mut [u8]) -> usize
-    ensures { Wrote out.old noGroupLine result out.new }
+    ensures { Wrote out.old no_group_line result out.new }
 {
     if out.len() < 8 {
         return 0;
@@ -68,7 +68,7 @@ pub fn no_group_line(out: &mut [u8]) -> usize
 }
 
 pub fn answer_line(out: &mut [u8], line: u32, answer: u32) -> usize
-    ensures { Wrote out.old (replyLine line (answers answer)) result out.new }
+    ensures { Wrote out.old (reply_line line (answers answer)) result out.new }
 {
     if out.len() < places(line) + places(answer) + 2 {
         return 0;
@@ -78,7 +78,7 @@ pub fn answer_line(out: &mut [u8], line: u32, answer: u32) -> usize
 }
 
 pub fn unknown_line(out: &mut [u8], line: u32) -> usize
-    ensures { Wrote out.old (replyLine line unknown) result out.new }
+    ensures { Wrote out.old (reply_line line unknown) result out.new }
 {
     if out.len() < places(line) + 3 {
         return 0;
@@ -89,8 +89,8 @@ pub fn unknown_line(out: &mut [u8], line: u32) -> usize
 
 // What a successful take adds to the line number: its answer, sender, number and word.
 fn put_taken(out: &mut [u8], at: usize, sender: u32, number: u32, word: &[u8]) -> usize
-    requires { at + length (joined (replyItems (took sender number word.now))) ≤ length out.old }
-    ensures { Put out.old at (joined (replyItems (took sender number word.now))) result out.new }
+    requires { at + length (joined (reply_items (took sender number word.now))) ≤ length out.old }
+    ensures { Put out.old at (joined (reply_items (took sender number word.now))) result out.new }
 {
     let a = put(out, at, b"0 ");
     let b = put_number(out, a, sender, b' ');
@@ -100,7 +100,7 @@ fn put_taken(out: &mut [u8], at: usize, sender: u32, number: u32, word: &[u8]) -
 }
 
 pub fn taken_line(out: &mut [u8], line: u32, sender: u32, number: u32, word: &[u8]) -> usize
-    ensures { Wrote out.old (replyLine line (took sender number word.now)) result out.new }
+    ensures { Wrote out.old (reply_line line (took sender number word.now)) result out.new }
 {
     let front = places(line) + places(sender) + places(number) + 6;
     if out.len() < front {

@@ -8,8 +8,8 @@ use native.Mathlib.Nat.{add-zero}
 use lib.Dec.{ltb}
 use lib.ListN.{get_or, drop}
 use Rattle.rules.specs.Maps.{at, every}
-use Rattle.rules.specs.Message.{noZero}
-use Rattle.tables.specs.Rows.{part, noneZero}
+use Rattle.rules.specs.Message.{no_zero}
+use Rattle.tables.specs.Rows.{part, none_zero}
 use Rattle.tables.proofs.GridLaws.{at_from}
 
 -- p from a on, and q from b on, agree
@@ -49,13 +49,13 @@ every-both a (suc m) p q = go (p a) (q a) (every-both (suc a) m p q)
     go false t e = refl
 
 -- none of the n numbers from index a on is 0
-pub noZero-part : (l : List ℕ) (a n : ℕ) → noZero (part l a n) ≡ noneZero n (at (drop a l))
-unfolding noneZero
-noZero-part l a n =
+pub no_zero-part : (l : List ℕ) (a n : ℕ) → no_zero (part l a n) ≡ none_zero n (at (drop a l))
+unfolding none_zero
+no_zero-part l a n =
     listed-every a n
     ∙ every-same a 1 n (λ i. ltb 0 (get_or l i 0)) (λ k. ltb 0 (at (drop a l) k))
     (λ i x. ap (ltb 0) (sym (at_from l a (1 + i) (omega arith) ∙ ap (λ (j : ℕ). get_or l (a + j) 0) (let e : 1 + i - 1 ≡ i = omega arith in e))))
   where
-    listed-every : (a n : ℕ) → noZero (part l a n) ≡ every a n (λ i. ltb 0 (get_or l i 0))
+    listed-every : (a n : ℕ) → no_zero (part l a n) ≡ every a n (λ i. ltb 0 (get_or l i 0))
     listed-every a zero = refl
     listed-every a (suc n) = ap (λ (t : Bool). ltb 0 (get_or l a 0) && t) (listed-every (suc a) n)

@@ -9,7 +9,7 @@ use lib.Seq.{get_or-set_same, get_or-set_other}
 use Rattle.rules.specs.Maps.{all, among, listed}
 use Rattle.rules.proofs.MapsLaws.{Eq?, same, other, eq?}
 use Rattle.tables.proofs.ListedLaws.{listed-left}
-use Rattle.state.specs.Soundness.{noneTwice}
+use Rattle.state.specs.Soundness.{none_twice}
 
 -- the rest of the pass: each of the list fits and is not marked, and is marked for those after it
 abbrev pub passes : (ℕ → Bool) → List Bool → List ℕ → Bool
@@ -45,7 +45,7 @@ unmarked-set marks p (q ∷ l) h = go (eq? p q) (unmarked-set marks p l h)
 
 -- where what fits has a mark of its own
 module _ (fits : ℕ → Bool) (m : ℕ) (room : (p : ℕ) → fits p ≡ true → p < m) where
-  passes-is : (marks : List Bool) (l : List ℕ) → length marks ≡ m → passes fits marks l ≡ all fits l && (unmarked marks l && noneTwice l)
+  passes-is : (marks : List Bool) (l : List ℕ) → length marks ≡ m → passes fits marks l ≡ all fits l && (unmarked marks l && none_twice l)
   passes-is marks [] e = refl
   passes-is marks (p ∷ l) e = go (fits p) (room p) (passes-is (set marks p true) l (length-set marks p true ∙ e))
     where
@@ -62,27 +62,27 @@ module _ (fits : ℕ → Bool) (m : ℕ) (room : (p : ℕ) → fits p ≡ true �
       rest : Bool
       rest = passes fits (set marks p true) l
 
-      go : (t : Bool) → (t ≡ true → p < m) → rest ≡ all fits l && (unmarked (set marks p true) l && noneTwice l) → t && free && rest ≡ t && all fits l && (free && unmarked marks l && (not (among p l) && noneTwice l))
+      go : (t : Bool) → (t ≡ true → p < m) → rest ≡ all fits l && (unmarked (set marks p true) l && none_twice l) → t && free && rest ≡ t && all fits l && (free && unmarked marks l && (not (among p l) && none_twice l))
       go false h ih = refl
       go true h ih =
           ap (λ (b : Bool). free && b)
           (ih
-          ∙ ap (λ (b : Bool). all fits l && (b && noneTwice l)) (unmarked-set marks p l (let x : p < length marks = omega (arith, h refl) in x)))
-          ∙ shuffle free (all fits l) (unmarked marks l) (not (among p l)) (noneTwice l)
+          ∙ ap (λ (b : Bool). all fits l && (b && none_twice l)) (unmarked-set marks p l (let x : p < length marks = omega (arith, h refl) in x)))
+          ∙ shuffle free (all fits l) (unmarked marks l) (not (among p l)) (none_twice l)
 
 -- every entry of a list that repeats one value, also past its end
-pub getD-blank : {A : Type 0} (m : ℕ) (a : A) (i : ℕ) → get_or (replicate m a) i a ≡ a
-getD-blank zero a i = refl
-getD-blank (suc m) a zero = refl
-getD-blank (suc m) a (suc i) = getD-blank m a i
+pub get_or-blank : {A : Type 0} (m : ℕ) (a : A) (i : ℕ) → get_or (replicate m a) i a ≡ a
+get_or-blank zero a i = refl
+get_or-blank (suc m) a zero = refl
+get_or-blank (suc m) a (suc i) = get_or-blank m a i
 
 unmarked-blank : (l : List ℕ) → unmarked blank l ≡ true
 unmarked-blank [] = refl
-unmarked-blank (p ∷ l) = rw (getD-blank 128 false p) (unmarked-blank l)
+unmarked-blank (p ∷ l) = rw (get_or-blank 128 false p) (unmarked-blank l)
 
-pub passes-blank : (fits : ℕ → Bool) → ((p : ℕ) → fits p ≡ true → p < 128) → (l : List ℕ) → passes fits blank l ≡ all fits l && noneTwice l
+pub passes-blank : (fits : ℕ → Bool) → ((p : ℕ) → fits p ≡ true → p < 128) → (l : List ℕ) → passes fits blank l ≡ all fits l && none_twice l
 passes-blank fits room l =
-    passes-is fits 128 room blank l refl ∙ ap (λ (b : Bool). all fits l && (b && noneTwice l)) (unmarked-blank l)
+    passes-is fits 128 room blank l refl ∙ ap (λ (b : Bool). all fits l && (b && none_twice l)) (unmarked-blank l)
 
 -- turns of the pass, at entry q of those before end
 module _ (fits : ℕ → Bool) (f : ℕ → ℕ) (marks : List Bool) (end q : ℕ) where

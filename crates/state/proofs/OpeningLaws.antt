@@ -12,28 +12,28 @@ use Rattle.rules.specs.Maps.{between, at, every, units}
 use Rattle.rules.specs.Message.{last}
 use Rattle.rules.specs.State.{State, opened, closed}
 use Rattle.rules.specs.Calls as Rules
-use Rattle.rules.specs.Calls.{openChecks, opening}
-use Rattle.rules.specs.Sound.{rangesFit, sound}
-use Rattle.rules.proofs.MapsLaws.{Lt?, lt, ge, lt?, Eq?, same, other, eq?, units_in, getD-listed}
+use Rattle.rules.specs.Calls.{open_checks, opening}
+use Rattle.rules.specs.Sound.{ranges_fit, sound}
+use Rattle.rules.proofs.MapsLaws.{Lt?, lt, ge, lt?, Eq?, same, other, eq?, units_in, get_or-listed}
 use Rattle.rules.proofs.OpeningLaws as RulesOpening
 use Rattle.rules.proofs.OpeningLaws.{Opens, passed-opens}
 use Rattle.rules.proofs.SoundLaws.{facts-sound}
-use Rattle.tables.specs.Rows.{part, row_of, grid, noneZero, raised, withColumn}
+use Rattle.tables.specs.Rows.{part, row_of, grid, none_zero, raised, with_column}
 use Rattle.tables.proofs.GridLaws.{Unit?, inside, outside, unit?, at_from}
 use Rattle.tables.proofs.RowLaws.{at_before}
 use Rattle.state.specs.declared.Core.{Core}
 use Rattle.state.specs.declared.Opened.{Opened}
 use Rattle.state.specs.declared.Opening.{Opening}
-use Rattle.state.specs.View.{lowest, keptOf, look}
-use Rattle.state.specs.Opening.{up_to, rows_of, core_of, closedCore, opened_of}
-use Rattle.state.specs.Soundness.{soundOf}
+use Rattle.state.specs.View.{lowest, kept_of, look}
+use Rattle.state.specs.Opening.{up_to, rows_of, core_of, closed_core, opened_of}
+use Rattle.state.specs.Soundness.{sound_of}
 use Rattle.state.proofs.EveryLaws.{every-units}
-use Rattle.state.proofs.MarkLaws.{getD-blank}
+use Rattle.state.proofs.MarkLaws.{get_or-blank}
 use Rattle.state.proofs.SoundLaws.{sound-look}
 
 -- numbers of 32 bits are in range where none is 0
-pub firsts-fit : (l : List ℕ) (n : ℕ) → ((i : ℕ) → get_or l i 0 ≤ last) → noneZero n (at l) ≡ every 1 n (λ k. between 1 last (at l k))
-unfolding noneZero between
+pub firsts-fit : (l : List ℕ) (n : ℕ) → ((i : ℕ) → get_or l i 0 ≤ last) → none_zero n (at l) ≡ every 1 n (λ k. between 1 last (at l k))
+unfolding none_zero between
 firsts-fit l n h = every-units n (λ k. ltb 0 (at l k)) (λ k. leb 1 (at l k) && leb (at l k) last) (λ k a b. go k (lt? 0 (at l k)))
   where
     most : (k : ℕ) → at l k ≤ last
@@ -70,25 +70,25 @@ units-none n k = go (between 1 n k)
     go true = refl
     go false = refl
 
-at-upTo : (n : ℕ) (l : List ℕ) (k : ℕ) → n ≤ 8 → 1 ≤ k → k ≤ n → at (up_to n l) k ≡ at l k
+at-up_to : (n : ℕ) (l : List ℕ) (k : ℕ) → n ≤ 8 → 1 ≤ k → k ≤ n → at (up_to n l) k ≡ at l k
 unfolding raised
-at-upTo n l k most a b =
+at-up_to n l k most a b =
     sym (at_before (up_to n l) k (λ e. omega arith))
-    ∙ getD-listed 0 8 entry (k - 1) (omega arith)
+    ∙ get_or-listed 0 8 entry (k - 1) (omega arith)
     ∙ ap entry (zero-add (k - 1))
-    ∙ rw (lt-ltb (k - 1) n (omega arith), getD-blank {A = ℕ} 8 0 (k - 1)) (omega arith)
+    ∙ rw (lt-ltb (k - 1) n (omega arith), get_or-blank {A = ℕ} 8 0 (k - 1)) (omega arith)
     ∙ at_before l k (λ e. omega arith)
   where
     entry : ℕ → ℕ
     entry i = cond (ltb i n) (max (get_or (replicate 8 0) i 0) (get_or l i 0)) (get_or (replicate 8 0) i 0)
 
 -- a cell of the table
-getD-rowsOf : (v : List ℕ) (j q : ℕ) → q < 64 → get_or (rows_of j v) q 0 ≡ cond (ltb (q % 8) j) (get_or v (q / 8) 0) 0
-unfolding withColumn
-getD-rowsOf v zero q h = getD-blank {A = ℕ} 64 0 q ∙ rw (le-ltb (q % 8) 0 (omega arith))
-getD-rowsOf v (suc j) q h =
-    getD-listed 0 64 (λ i. cond (eqb (i % 8 + 1) (suc j)) (get_or v (i / 8) 0) (get_or (rows_of j v) i 0)) q h
-    ∙ rw (zero-add q, getD-rowsOf v j q h) (go (eq? (q % 8 + 1) (suc j)) (lt? (q % 8) j))
+get_or-rows_of : (v : List ℕ) (j q : ℕ) → q < 64 → get_or (rows_of j v) q 0 ≡ cond (ltb (q % 8) j) (get_or v (q / 8) 0) 0
+unfolding with_column
+get_or-rows_of v zero q h = get_or-blank {A = ℕ} 64 0 q ∙ rw (le-ltb (q % 8) 0 (omega arith))
+get_or-rows_of v (suc j) q h =
+    get_or-listed 0 64 (λ i. cond (eqb (i % 8 + 1) (suc j)) (get_or v (i / 8) 0) (get_or (rows_of j v) i 0)) q h
+    ∙ rw (zero-add q, get_or-rows_of v j q h) (go (eq? (q % 8 + 1) (suc j)) (lt? (q % 8) j))
   where
     x : ℕ
     x = get_or v (q / 8) 0
@@ -99,18 +99,18 @@ getD-rowsOf v (suc j) q h =
     go (other d) (ge a) = rw (le-ltb (q % 8) (suc j) (omega arith))
 
 module _ (n : ℕ) (most : n ≤ 8) where
-  units-upTo : (l : List ℕ) → units n (at (up_to n l)) ≡ units n (at l)
-  units-upTo l = units-same n (at (up_to n l)) (at l) (λ k a b. at-upTo n l k most a b)
+  units-up_to : (l : List ℕ) → units n (at (up_to n l)) ≡ units n (at l)
+  units-up_to l = units-same n (at (up_to n l)) (at l) (λ k a b. at-up_to n l k most a b)
 
   -- unit k's number in each cell of row k
-  grid-rowsOf : (v : List ℕ) → grid n (rows_of n v) ≡ (λ k. units n (λ j. units n (at v) k))
+  grid-rows_of : (v : List ℕ) → grid n (rows_of n v) ≡ (λ k. units n (λ j. units n (at v) k))
   unfolding grid
-  grid-rowsOf v = fun_ext (λ k. fun_ext (λ j. go k j (unit? n k)))
+  grid-rows_of v = fun_ext (λ k. fun_ext (λ j. go k j (unit? n k)))
     where
       cell : (k j : ℕ) → 1 ≤ k → k ≤ n → 1 ≤ j → j ≤ n → at (row_of (rows_of n v) k) j ≡ at v k
       cell k j a b d e =
           at_from (rows_of n v) (8 * (k - 1)) j d
-          ∙ getD-rowsOf v n (8 * (k - 1) + (j - 1)) (omega arith)
+          ∙ get_or-rows_of v n (8 * (k - 1) + (j - 1)) (omega arith)
           ∙ rw (lt-ltb ((8 * (k - 1) + (j - 1)) % 8) n (omega arith)) (ap (λ (i : ℕ). get_or v i 0) (let q : (8 * (k - 1) + (j - 1)) / 8 ≡ k - 1 = omega arith in q))
           ∙ at_before v k (λ z. omega arith)
 
@@ -121,22 +121,22 @@ module _ (n : ℕ) (most : n ≤ 8) where
 module _ (o : Opening) (most : o.n ≤ 8) where
   grid-fresh : grid o.n (rows_of o.n (up_to o.n o.first)) ≡ (λ k. units o.n (λ j. units o.n (at o.first) k))
   grid-fresh =
-      grid-rowsOf o.n most (up_to o.n o.first)
-      ∙ ap (λ (f : ℕ → ℕ). λ (k : ℕ). units o.n (λ j. f k)) (units-upTo o.n most o.first)
+      grid-rows_of o.n most (up_to o.n o.first)
+      ∙ ap (λ (f : ℕ → ℕ). λ (k : ℕ). units o.n (λ j. f k)) (units-up_to o.n most o.first)
 
   buf-fresh : units o.n (at (up_to o.n (replicate 8 (4 * o.w * o.n)))) ≡ units o.n (λ j. 4 * o.w * o.n)
   buf-fresh =
-      units-upTo o.n most (replicate 8 (4 * o.w * o.n))
+      units-up_to o.n most (replicate 8 (4 * o.w * o.n))
       ∙ units-same o.n (at (replicate 8 (4 * o.w * o.n))) (λ j. 4 * o.w * o.n)
       (λ k a b. sym (at_before (replicate 8 (4 * o.w * o.n)) k (λ e. omega arith)) ∙ get_or-replicate 8 (k - 1) (4 * o.w * o.n) 0 (omega arith))
 
-  kept_fresh : (frames : List ℕ) → keptOf (core_of o) frames ≡ (λ x. [])
-  unfolding keptOf core_of
+  kept_fresh : (frames : List ℕ) → kept_of (core_of o) frames ≡ (λ x. [])
+  unfolding kept_of core_of
   kept_fresh frames =
       fun_ext
       (λ x.
       ap (λ (m : ℕ). cond (leb (lowest (core_of o)) x) (cond (ltb x (at o.first o.me)) (part frames (117 * (x - lowest (core_of o))) m) []) [])
-      (getD-blank {A = ℕ} 4 0 (x - lowest (core_of o)))
+      (get_or-blank {A = ℕ} 4 0 (x - lowest (core_of o)))
       ∙ none (leb (lowest (core_of o)) x) (ltb x (at o.first o.me)))
     where
       none : (s t : Bool) → ◌≡◌ {A = List ℕ} (cond s (cond t [] []) []) []
@@ -146,16 +146,16 @@ module _ (o : Opening) (most : o.n ≤ 8) where
 
   pub fresh-look : (acks bytes frames : List ℕ) → look (core_of o) acks bytes frames ≡ opened o.me o.n o.w o.cid (at o.first)
   unfolding look core_of opened
-  fresh-look acks bytes frames = rw (units-upTo o.n most o.first, grid-fresh, buf-fresh, kept_fresh frames)
+  fresh-look acks bytes frames = rw (units-up_to o.n most o.first, grid-fresh, buf-fresh, kept_fresh frames)
 
 -- ---- the closed unit
 
 -- opened with nothing, a unit is closed
-pub closed-fresh : core_of (record { me = 0; n = 0; w = 0; cid = 0; first = replicate 8 0 }) ≡ closedCore
+pub closed-fresh : core_of (record { me = 0; n = 0; w = 0; cid = 0; first = replicate 8 0 }) ≡ closed_core
 unfolding core_of raised
 closed-fresh = refl
 
-pub closed-look : (acks bytes frames : List ℕ) → look closedCore acks bytes frames ≡ closed
+pub closed-look : (acks bytes frames : List ℕ) → look closed_core acks bytes frames ≡ closed
 unfolding closed
 closed-look acks bytes frames =
     sym (ap (λ (c : Core). look c acks bytes frames) closed-fresh)
@@ -164,13 +164,13 @@ closed-look acks bytes frames =
   where
     none : (k : ℕ) → at (replicate 8 0) k ≡ 0
     none zero = refl
-    none (suc k) = getD-blank 8 0 k
+    none (suc k) = get_or-blank 8 0 k
 
 -- ---- the two ways it ends
 
 pub data OpensSound (acks : List ℕ) : Opened → Type 0 where
-  opens : (c : Core) → soundOf c acks ≡ true → OpensSound acks (record { answer = 0; core = c })
-  refuses : OpensSound acks (record { answer = 2; core = closedCore })
+  opens : (c : Core) → sound_of c acks ≡ true → OpensSound acks (record { answer = 0; core = c })
+  refuses : OpensSound acks (record { answer = 2; core = closed_core })
 
 module _ (o : Opening) where
   -- what the rules open with the same arguments
@@ -184,16 +184,16 @@ module _ (o : Opening) where
   Fits = Opens o.me o.n o.w o.cid (at o.first)
 
   opened-cases : (P : Opened → Rules.Opened → Type 0)
-      → P (record { answer = 2; core = closedCore }) (record { answer = 2; unit = closed })
+      → P (record { answer = 2; core = closed_core }) (record { answer = 2; unit = closed })
       → (Fits → P (record { answer = 0; core = core_of o }) (record { answer = 0; unit = fresh }))
       → P (opened_of o) there
-  unfolding opened_of opening openChecks
+  unfolding opened_of opening open_checks
   opened-cases P x y =
-      go (rangesFit o.me o.n o.w && leb o.cid last && every 1 o.n (λ k. between 1 last (at o.first k)))
+      go (ranges_fit o.me o.n o.w && leb o.cid last && every 1 o.n (λ k. between 1 last (at o.first k)))
       (λ e. passed-opens o.me o.n o.w o.cid (at o.first) (ap not e, tt))
     where
       go : (t : Bool) → (t ≡ true → Fits)
-          → P (cond (not t) (record { answer = 2; core = closedCore }) (record { answer = 0; core = core_of o }))
+          → P (cond (not t) (record { answer = 2; core = closed_core }) (record { answer = 0; core = core_of o }))
           (cond (not t) (record { answer = 2; unit = closed }) (record { answer = 0; unit = fresh }))
       go true f = y (f refl)
       go false f = x

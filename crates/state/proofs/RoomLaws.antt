@@ -14,8 +14,8 @@ use Rattle.lists.specs.Order.{total, entry, takens}
 use Rattle.lists.specs.View.{Whole}
 use Rattle.lists.proofs.TakenLaws.{taken-length}
 use Rattle.state.specs.declared.Core.{Core}
-use Rattle.state.specs.View.{placeAt, look}
-use Rattle.state.specs.Soundness.{place_of, places_of, soundOf}
+use Rattle.state.specs.View.{place_at, look}
+use Rattle.state.specs.Soundness.{place_of, places_of, sound_of}
 use Rattle.state.proofs.LookLaws.{shows-look}
 use Rattle.state.proofs.PlaceLaws.{place-sender}
 use Rattle.state.proofs.SoundLaws.{sound-look}
@@ -26,30 +26,30 @@ all-every t a (suc m) f = ap (λ (b : Bool). t (f a) && b) (all-every t (suc a) 
 
 module _ (c : Core) (acks : List ℕ) where
   -- the facts of the rules
-  pub sound-shown : (bytes frames : List ℕ) → soundOf c acks ≡ true → Sound (look c acks bytes frames)
+  pub sound-shown : (bytes frames : List ℕ) → sound_of c acks ≡ true → Sound (look c acks bytes frames)
   sound-shown bytes frames h = sound-facts (look c acks bytes frames) (sym (sound-look c acks bytes frames) ∙ h)
 
   -- i, n and W are in range
-  pub sound-ranges : soundOf c acks ≡ true → Ranges c.me c.n c.w
+  pub sound-ranges : sound_of c acks ≡ true → Ranges c.me c.n c.w
   unfolding look
   sound-ranges h = (sound-shown [] [] h).ranges
 
   -- more than 128 would repeat one
-  pub sound-room : soundOf c acks ≡ true → total c.order ≤ 128
+  pub sound-room : sound_of c acks ≡ true → total c.order ≤ 128
   unfolding look
   sound-room h =
       let s = look c acks [] [] in
       let f = sound-shown [] [] h in
       omega (
         arith,
-        taken-length (placeAt c acks []) c.n c.order s (shows-look c acks [] []),
+        taken-length (place_at c acks []) c.n c.order s (shows-look c acks [] []),
         taken-most s f,
         mul-le-mul {n₁ = 4 * c.w} {m₁ = c.n} {n₂ = 16} {m₂ = 8} (omega (arith, f.ranges.w-high)) f.ranges.n-high,
       )
 
   -- each taken place is one of those of the senders; the array's length comes from its type
-  pub sound-whole : length c.order.list ≡ 128 → soundOf c acks ≡ true → Whole c.n c.order
-  unfolding soundOf places_of
+  pub sound-whole : length c.order.list ≡ 128 → sound_of c acks ≡ true → Whole c.n c.order
+  unfolding sound_of places_of
   sound-whole long h =
       let fit : all fits (takens c.order) ≡ true = search (and_left, and_right) in
       record {

@@ -23,25 +23,25 @@ changed c seq req heard buf al kept seqs lens order =
     }
 
 -- HEARD
-abbrev pub withHeard : Core → List ℕ → Core
-withHeard c heard = changed c c.seq c.req heard c.buf c.al c.kept c.seqs c.lens c.order
+abbrev pub with_heard : Core → List ℕ → Core
+with_heard c heard = changed c c.seq c.req heard c.buf c.al c.kept c.seqs c.lens c.order
 
 -- the order of the places
-abbrev pub withOrder : Core → Order → Core
-withOrder c order = changed c c.seq c.req c.heard c.buf c.al c.kept c.seqs c.lens order
+abbrev pub with_order : Core → Order → Core
+with_order c order = changed c c.seq c.req c.heard c.buf c.al c.kept c.seqs c.lens order
 
 -- AL, and the kept lengths
-abbrev pub withTable : Core → List ℕ → List ℕ → Core
-withTable c al kept = changed c c.seq c.req c.heard c.buf al kept c.seqs c.lens c.order
+abbrev pub with_table : Core → List ℕ → List ℕ → Core
+with_table c al kept = changed c c.seq c.req c.heard c.buf al kept c.seqs c.lens c.order
 
 -- REQ, HEARD and BUF
-abbrev pub withRows : Core → List ℕ → List ℕ → List ℕ → Core
-withRows c req heard buf = changed c c.seq req heard buf c.al c.kept c.seqs c.lens c.order
+abbrev pub with_rows : Core → List ℕ → List ℕ → List ℕ → Core
+with_rows c req heard buf = changed c c.seq req heard buf c.al c.kept c.seqs c.lens c.order
 
 -- numbers and lengths of the places, and their order
-abbrev pub withPlace : Core → List ℕ → List ℕ → Order → Core
-withPlace c seqs lens order = changed c c.seq c.req c.heard c.buf c.al c.kept seqs lens order
+abbrev pub with_place : Core → List ℕ → List ℕ → Order → Core
+with_place c seqs lens order = changed c c.seq c.req c.heard c.buf c.al c.kept seqs lens order
 
 -- SEQ, and the kept lengths
-abbrev pub withSeq : Core → ℕ → List ℕ → Core
-withSeq c seq kept = changed c seq c.req c.heard c.buf c.al kept c.seqs c.lens c.order
+abbrev pub with_seq : Core → ℕ → List ℕ → Core
+with_seq c seq kept = changed c seq c.req c.heard c.buf c.al kept c.seqs c.lens c.order

@@ -1,8 +1,8 @@
 -- What opening gives: the numbers of a fresh unit, or those of the closed one.
 use Rattle.std.specs.Prelude.{List, ℕ, zero, suc, ◌*◌, replicate}
 use Rattle.rules.specs.Maps.{at}
-use Rattle.rules.specs.Calls.{decide, openChecks}
-use Rattle.tables.specs.Rows.{withColumn, raised}
+use Rattle.rules.specs.Calls.{decide, open_checks}
+use Rattle.tables.specs.Rows.{with_column, raised}
 use Rattle.state.specs.declared.Core.{Core}
 use Rattle.state.specs.declared.Opening.{Opening}
 use Rattle.state.specs.declared.Opened.{Opened}
@@ -14,7 +14,7 @@ up_to n l = raised n (replicate 8 0) l
 -- a table with the same numbers in each of the columns 1 to n, and 0 past them
 abbrev pub rows_of : ℕ → List ℕ → List ℕ
 rows_of zero v = replicate 64 0
-rows_of (suc j) v = withColumn (rows_of j v) (suc j) v
+rows_of (suc j) v = with_column (rows_of j v) (suc j) v
 
 -- the first numbers of the units, of unit k in each row k, 4Wn free places, and nothing taken or kept
 unfoldable pub core_of : Opening → Core
@@ -42,8 +42,8 @@ core_of o =
     }
 
 -- the closed unit: all numbers 0
-abbrev pub closedCore : Core
-closedCore =
+abbrev pub closed_core : Core
+closed_core =
     record {
       me = 0;
       n = 0;
@@ -62,5 +62,5 @@ closedCore =
 
 unfoldable pub opened_of : Opening → Opened
 opened_of o =
-    decide (openChecks o.me o.n o.w o.cid (at o.first)) (λ a. record { answer = a; core = closedCore })
+    decide (open_checks o.me o.n o.w o.cid (at o.first)) (λ a. record { answer = a; core = closed_core })
     (record { answer = 0; core = core_of o })

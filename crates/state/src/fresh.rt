@@ -2,7 +2,7 @@
 ghost use Rattle.std.specs.Prelude.{◌&&◌, ◌≡◌, leb};
 ghost use Rattle.rules.specs.Maps.{between, at, every};
 ghost use Rattle.rules.specs.Message.{last};
-ghost use Rattle.rules.specs.Sound.{rangesFit};
+ghost use Rattle.rules.specs.Sound.{ranges_fit};
 ghost use Rattle.state.specs.Opening.{rows_of, core_of};
 
 use crate::{Core, Opening, soundness};
@@ -11,7 +11,7 @@ use tables;
 
 // Every number is in the range for opening; that none is past 32 bits its type says.
 pub fn can_open(o: Opening) -> bool
-    ensures { result ≡ rangesFit o.me o.n o.w && leb o.cid last && every 1 o.n (λ k. between 1 last (at o.first k)) }
+    ensures { result ≡ ranges_fit o.me o.n o.w && leb o.cid last && every 1 o.n (λ k. between 1 last (at o.first k)) }
 {
     soundness::ranges_fit(o.me, o.n, o.w) && tables::none_zero(&o.first, o.n)
 }

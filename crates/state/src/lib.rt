@@ -5,8 +5,8 @@ mod soundness;
 ghost use Rattle.std.specs.Prelude.{◌≡◌};
 ghost use Rattle.rules.specs.Maps.{between};
 ghost use Rattle.state.specs.Opening.{opened_of};
-ghost use Rattle.state.specs.Soundness.{lowIn, soundOf};
-ghost use Rattle.state.specs.View.{freePlaces};
+ghost use Rattle.state.specs.Soundness.{low_in, sound_of};
+ghost use Rattle.state.specs.View.{free_places};
 
 use lists;
 use lists::Order;
@@ -23,7 +23,7 @@ pub const MOST_WINDOW: usize = 4;
 
 pub const MOST_DATA: usize = 48;
 
-// The kept frame of number s is in slot s - minAL of the own index, and `kept` holds its length. `seqs` and `lens`
+// The kept frame of number s is in slot s - min_al of the own index, and `kept` holds its length. `seqs` and `lens`
 // hold number and data length of the message at each place.
 #[derive(Drop)]
 pub struct Core {
@@ -79,9 +79,9 @@ pub fn opened_with(o: Opening) -> Opened
     Opened { answer: 2, core }
 }
 
-// minAL of the own index.
+// min_al of the own index.
 pub fn own_low(al: &[u32], me: u8, n: u8) -> u32
-    ensures { result ≡ lowIn al.now me n }
+    ensures { result ≡ low_in al.now me n }
 {
     tables::least_of(tables::row(al, me), n)
 }
@@ -95,7 +95,7 @@ pub fn is_unit(n: u8, k: u32) -> bool
 
 // The number of free places.
 pub fn free_places(c: Core) -> u32
-    ensures { result ≡ freePlaces c }
+    ensures { result ≡ free_places c }
 {
     let order = c.order;
     tables::above(4 * (c.w as u32) * (c.n as u32), lists::taken(order) as u32)
@@ -103,7 +103,7 @@ pub fn free_places(c: Core) -> u32
 
 // Whether the unit is sound.
 pub fn sound(c: Core, acks: &[u32]) -> bool
-    ensures { result ≡ soundOf c acks.now }
+    ensures { result ≡ sound_of c acks.now }
 {
     if !soundness::ranges_fit(c.me, c.n, c.w) {
         return false;

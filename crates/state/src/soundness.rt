@@ -1,8 +1,8 @@
 // The tests that make a unit sound, one for each clause.
 ghost use Rattle.std.specs.Prelude.{◌≡◌, ◌≤◌};
 ghost use Rattle.rules.specs.Maps.{between};
-ghost use Rattle.rules.specs.Sound.{rangesFit};
-ghost use Rattle.state.specs.Soundness.{nextsOf, keptLengths, windowOf, place_of, places_of};
+ghost use Rattle.rules.specs.Sound.{ranges_fit};
+ghost use Rattle.state.specs.Soundness.{nexts_of, kept_lengths, window_of, place_of, places_of};
 
 use crate::{LEAST_UNITS, LEAST_WINDOW, MOST_DATA, MOST_UNITS, MOST_WINDOW};
 use lists;
@@ -18,7 +18,7 @@ pub fn between(low: u64, high: u64, x: u64) -> bool
 
 // i, n and W are in range.
 pub fn ranges_fit(me: u8, n: u8, w: u8) -> bool
-    ensures { result ≡ rangesFit me n w }
+    ensures { result ≡ ranges_fit me n w }
 {
     if !between(LEAST_UNITS as u64, MOST_UNITS as u64, n as u64) {
         return false;
@@ -38,7 +38,7 @@ pub fn nexts_fit<'a>(
     al: &'a [u32],
     pal: &'a [u32],
 ) -> bool
-    ensures { result ≡ nextsOf n seq req.now heard.now al.now pal.now }
+    ensures { result ≡ nexts_of n seq req.now heard.now al.now pal.now }
 {
     if seq == 0 {
         return false;
@@ -57,7 +57,7 @@ pub fn nexts_fit<'a>(
 
 // The first m kept frames are as long as frames of data can be.
 pub fn kept_fit(kept: [u8; 4], n: u8, m: u32) -> bool
-    ensures { result ≡ keptLengths kept n m }
+    ensures { result ≡ kept_lengths kept n m }
 {
     let least = 37 + 4 * (n as u64);
     let mut i: u32 = 0;
@@ -71,9 +71,9 @@ pub fn kept_fit(kept: [u8; 4], n: u8, m: u32) -> bool
     true
 }
 
-// SEQ is from minAL to minAL + W, a sum that may pass 32 bits, and the frames kept from minAL on are of fit lengths.
+// SEQ is from min_al to min_al + W, a sum that may pass 32 bits, and the frames kept from min_al on are of fit lengths.
 pub fn window_fits(low: u32, w: u8, n: u8, seq: u32, kept: [u8; 4]) -> bool
-    ensures { result ≡ windowOf low w n seq kept }
+    ensures { result ≡ window_of low w n seq kept }
 {
     if !between(low as u64, (low as u64) + (w as u64), seq as u64) {
         return false;

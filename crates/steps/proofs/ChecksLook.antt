@@ -11,12 +11,12 @@ use Rattle.rules.specs.State.{State}
 use Rattle.rules.specs.Calls.{foreign, full}
 use Rattle.rules.proofs.MapsLaws.{between-low, between-high, or_left, or_right}
 use Rattle.lists.specs.View.{Whole}
-use Rattle.lists.proofs.TakenLaws.{takenOf-is}
+use Rattle.lists.proofs.TakenLaws.{taken_of-is}
 use Rattle.state.specs.declared.Core.{Core}
-use Rattle.state.specs.View.{placeAt, look}
+use Rattle.state.specs.View.{place_at, look}
 use Rattle.state.proofs.LookLaws.{holds-look, shows-look}
 use Rattle.frame.specs.declared.Frame.{Frame}
-use Rattle.steps.specs.Checks.{ofGroup, noPlace}
+use Rattle.steps.specs.Checks.{of_group, no_place}
 
 not-and : (a b : Bool) → not (a && b) ≡ not a || not b
 not-and true b = refl
@@ -32,8 +32,8 @@ module _ (c : Core) (acks bytes frames : List ℕ) where
   abbrev s : State
   s = look c acks bytes frames
 
-  pub group-look : (f : Frame) (ack : List ℕ) → f.n ≡ length ack → not (ofGroup c f) ≡ foreign s f.src ack
-  unfolding ofGroup foreign look
+  pub group-look : (f : Frame) (ack : List ℕ) → f.n ≡ length ack → not (of_group c f) ≡ foreign s f.src ack
+  unfolding of_group foreign look
   group-look f ack e = rw e (not-and (eqb (length ack) c.n) (between 1 c.n f.src))
 
   pub not-foreign : (src : ℕ) (ack : List ℕ) → foreign s src ack ≡ false → OfGroup c.n src ack
@@ -46,8 +46,8 @@ module _ (c : Core) (acks bytes frames : List ℕ) where
         high = between-high 1 c.n src unit;
       }
 
-  pub full-look : Whole c.n c.order → (j : ℕ) → noPlace c j ≡ full s j
-  unfolding noPlace full look
+  pub full-look : Whole c.n c.order → (j : ℕ) → no_place c j ≡ full s j
+  unfolding no_place full look
   full-look W j =
       ap (leb (4 * c.w))
-      (takenOf-is (placeAt c acks bytes) c.n c.order s (shows-look c acks bytes frames) c.seqs acks (holds-look c acks bytes) W j)
+      (taken_of-is (place_at c acks bytes) c.n c.order s (shows-look c acks bytes frames) c.seqs acks (holds-look c acks bytes) W j)

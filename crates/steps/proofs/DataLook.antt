@@ -11,14 +11,14 @@ use borrow.Author.Tests.{ne_eqb}
 use Rattle.rules.specs.Maps.{at, every, units, upd}
 use Rattle.rules.specs.Message.{Message, message, last}
 use Rattle.rules.specs.State.{State}
-use Rattle.rules.specs.Steps.{known, withHeard, noted}
-use Rattle.rules.specs.Calls.{◌⇒◌, dataChecks}
+use Rattle.rules.specs.Steps.{known, with_heard, noted}
+use Rattle.rules.specs.Calls.{◌⇒◌, data_checks}
 use Rattle.rules.proofs.MapsLaws.{units_in}
-use Rattle.tables.specs.Rows.{belowBut, columnOf, raised}
+use Rattle.tables.specs.Rows.{below_but, column_of, raised}
 use Rattle.tables.proofs.GridLaws.{Unit?, inside, outside, unit?}
 use Rattle.lists.specs.View.{Whole}
 use Rattle.state.specs.declared.Core.{Core}
-use Rattle.state.specs.View.{placeAt, keptOf, look}
+use Rattle.state.specs.View.{place_at, kept_of, look}
 use Rattle.state.proofs.EveryLaws.{every-units}
 use Rattle.frame.specs.declared.Frame.{Frame}
 use Rattle.frame.specs.Acks.{eight}
@@ -27,7 +27,7 @@ use Rattle.frame.proofs.Numbers.{length-eight}
 use Rattle.store.specs.Store.{after}
 use Rattle.store.proofs.RowLaws.{units-set}
 use Rattle.steps.specs.Arrival.{noted_of}
-use Rattle.steps.specs.Checks.{impossible, unitChecks}
+use Rattle.steps.specs.Checks.{impossible, unit_checks}
 use Rattle.steps.proofs.AckLaws.{at-eight}
 use Rattle.steps.proofs.ChecksLook.{OfGroup, full-look}
 use Rattle.steps.proofs.RowLook.{at-column, at-raised}
@@ -50,21 +50,21 @@ module _ (c : Core) (acks bytes frames : List ℕ) (p : Message) (most : c.n ≤
   unfolding impossible frame_of
   impossible-look = rw (at-eight p.ack c.me, at-eight p.ack p.src)
 
-  known_look : belowBut c.n p.src (at (eight p.ack)) (at c.req) ≡ known s p
-  unfolding belowBut known look
+  known_look : below_but c.n p.src (at (eight p.ack)) (at c.req) ≡ known s p
+  unfolding below_but known look
   known_look =
       every-units c.n (λ k. cond (eqb k p.src) true (leb (at (eight p.ack) k) (at c.req k)))
       (λ k. cond (eqb k p.src) true (leb (at p.ack k) (units c.n (at c.req) k)))
       (λ k a b. rw (at-eight p.ack k, units_in c.n (at c.req) k a b))
 
-  risen-look : belowBut c.n 0 (at (columnOf c.al p.src)) (at (eight p.ack)) ≡ every 1 c.n (λ k. leb (s.al k p.src) (at p.ack k))
-  unfolding belowBut look
+  risen-look : below_but c.n 0 (at (column_of c.al p.src)) (at (eight p.ack)) ≡ every 1 c.n (λ k. leb (s.al k p.src) (at p.ack k))
+  unfolding below_but look
   risen-look =
-      every-units c.n (λ k. cond (eqb k 0) true (leb (at (columnOf c.al p.src) k) (at (eight p.ack) k))) (λ k. leb (s.al k p.src) (at p.ack k))
+      every-units c.n (λ k. cond (eqb k 0) true (leb (at (column_of c.al p.src) k) (at (eight p.ack) k))) (λ k. leb (s.al k p.src) (at p.ack k))
       (λ k a b. rw (ne_eqb k 0 (λ e. omega arith), at-column c.n most k a b c.al p.src G.low G.high, at-eight p.ack k))
 
-  pub unit-checks : Whole c.n c.order → unitChecks c f ≡ drop 3 (dataChecks s p)
-  unfolding dataChecks look frame_of
+  pub unit-checks : Whole c.n c.order → unit_checks c f ≡ drop 3 (data_checks s p)
+  unfolding data_checks look frame_of
   unit-checks W i =
       let req : at c.req p.src ≡ units c.n (at c.req) p.src = sym (units_in c.n (at c.req) p.src G.low G.high) in
       (eqb p.src c.me ⇒ 6)
@@ -105,5 +105,5 @@ module _ (c : Core) (acks bytes frames : List ℕ) (p : Message) (most : c.n ≤
             rw (ne_eqb k p.src (λ e. x (omega arith) (omega arith)), at-outside p.ack k (λ a b. x a (omega arith)))
 
     pub noted-look : look (noted_of c f) acks bytes frames ≡ noted s p
-    unfolding noted_of noted look placeAt keptOf frame_of
-    noted-look = ap (withHeard s) new-heard
+    unfolding noted_of noted look place_at kept_of frame_of
+    noted-look = ap (with_heard s) new-heard

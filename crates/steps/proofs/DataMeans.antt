@@ -11,7 +11,7 @@ use Rattle.rules.specs.Message.{Message, message}
 use Rattle.rules.specs.State.{State}
 use Rattle.rules.specs.Steps.{noted, accepted}
 use Rattle.rules.specs.Sound.{sound}
-use Rattle.rules.specs.Calls.{Check, decide, Result, refusal, foreign, dataChecks, arriveData}
+use Rattle.rules.specs.Calls.{Check, decide, Result, refusal, foreign, data_checks, arrive_data}
 use Rattle.rules.proofs.CallsLaws.{Passed}
 use Rattle.rules.proofs.SoundLaws.{sound-facts}
 use Rattle.rules.proofs.LimitsLaws.{Limits}
@@ -29,12 +29,12 @@ use Rattle.frame.specs.Acks.{eight}
 use Rattle.frame.specs.Frame.{frame_of}
 use Rattle.frame.proofs.Numbers.{length-eight}
 use Rattle.store.specs.Fits.{Sized, Fits, Says}
-use Rattle.store.proofs.AcceptedLook.{acceptedLook, accepted-look}
+use Rattle.store.proofs.AcceptedLook.{accepted_look, accepted-look}
 use Rattle.store.proofs.Supplied.{storable-fits, storable-goes}
 use Rattle.steps.specs.declared.Arrival.{Arrival}
-use Rattle.steps.specs.Arrival.{passing, noted_of, notes, acceptingOf, storing, unitArrival, dataArrival}
-use Rattle.steps.specs.Checks.{unitChecks}
-use Rattle.steps.specs.Means.{arrivedAs}
+use Rattle.steps.specs.Arrival.{passing, noted_of, notes, accepting_of, storing, unit_arrival, data_arrival}
+use Rattle.steps.specs.Checks.{unit_checks}
+use Rattle.steps.specs.Means.{arrived_as}
 use Rattle.steps.proofs.AckLaws.{part-eight}
 use Rattle.steps.proofs.ChecksLook.{OfGroup, group-look, not-foreign}
 use Rattle.steps.proofs.DataLook.{unit-checks, noted-look}
@@ -50,13 +50,13 @@ module _ (c : Core) (acks bytes frames : List ℕ) (Z : Sized c acks bytes) (p :
 
   -- what an arrival of p means
   abbrev means : Arrival → Result
-  means r = arrivedAs r acks bytes frames p.text
+  means r = arrived_as r acks bytes frames p.text
 
   -- ---- accepted
 
-  accepted-means : Passed (dataChecks s p) → acceptedLook c acks bytes frames (acceptingOf c f) p.text ≡ accepted s p
+  accepted-means : Passed (data_checks s p) → accepted_look c acks bytes frames (accepting_of c f) p.text ≡ accepted s p
   unfolding look frame_of
-  accepted-means h = accepted-look c acks bytes frames (acceptingOf c f) p.text p Z fits (storable-goes c acks bytes frames p Z A (acceptingOf c f) p.text says) says
+  accepted-means h = accepted-look c acks bytes frames (accepting_of c f) p.text p Z fits (storable-goes c acks bytes frames p Z A (accepting_of c f) p.text says) says
     where
       A : Storable s p
       A = arrival-storable s p (passed-accepts s p h) limits
@@ -67,7 +67,7 @@ module _ (c : Core) (acks bytes frames : List ℕ) (Z : Sized c acks bytes) (p :
       T : Taking c p.src
       T = taking c acks bytes frames A.ranges.w-high fits.whole p.src A.says.src-low A.room
 
-      says : Says c (acceptingOf c f) p.text p
+      says : Says c (accepting_of c f) p.text p
       says =
           record {
             src = sym T.sender;
@@ -89,13 +89,13 @@ module _ (c : Core) (acks bytes frames : List ℕ) (Z : Sized c acks bytes) (p :
   abbrev done : State → Result
   done t = record { answer = 0; numbers = 0 ∷ 0 ∷ []; next = t; output = [] }
 
-  unit-means : sound s ≡ true → OfGroup c.n p.src p.ack → (Passed (drop 3 (dataChecks s p)) → Passed (dataChecks s p))
-      → means (unitArrival c f) ≡ decide (drop 3 (dataChecks s p)) refused (done (accepted s p))
-  unfolding unitArrival arrivedAs storing look
+  unit-means : sound s ≡ true → OfGroup c.n p.src p.ack → (Passed (drop 3 (data_checks s p)) → Passed (data_checks s p))
+      → means (unit_arrival c f) ≡ decide (drop 3 (data_checks s p)) refused (done (accepted s p))
+  unfolding unit_arrival arrived_as storing look
   unit-means h G passed =
-      ap means (decide-answer passes (storing c f) (unitChecks c f) refl)
+      ap means (decide-answer passes (storing c f) (unit_checks c f) refl)
       ∙ ap (λ (l : List Check). means (decide l passes (storing c f))) (unit-checks c acks bytes frames p most G whole)
-      ∙ decide-map means passes (storing c f) refused (done (accepted s p)) (drop 3 (dataChecks s p)) (λ a x. refuses (notes a) a)
+      ∙ decide-map means passes (storing c f) refused (done (accepted s p)) (drop 3 (data_checks s p)) (λ a x. refuses (notes a) a)
       (λ x. ap done (accepted-means (passed x)))
     where
       most : c.n ≤ 8
@@ -113,18 +113,18 @@ module _ (c : Core) (acks bytes frames : List ℕ) (Z : Sized c acks bytes) (p :
 
   -- ---- the whole
 
-  pub data-means : sound s ≡ true → means (dataArrival c f) ≡ arriveData s p
-  unfolding dataArrival arriveData dataChecks look arrivedAs frame_of
+  pub data-means : sound s ≡ true → means (data_arrival c f) ≡ arrive_data s p
+  unfolding data_arrival arrive_data data_checks look arrived_as frame_of
   data-means h =
-      ap (λ (t : Bool). means (cond other (passing 4 0 0 c) (cond t (passing 5 0 0 c) (unitArrival c f)))) (group-look c acks bytes frames f p.ack refl)
+      ap (λ (t : Bool). means (cond other (passing 4 0 0 c) (cond t (passing 5 0 0 c) (unit_arrival c f)))) (group-look c acks bytes frames f p.ack refl)
       ∙ go other (foreign s p.src p.ack) refl refl
     where
       other : Bool
       other = not (eqb p.cid c.cid)
 
       go : (t u : Bool) → other ≡ t → foreign s p.src p.ack ≡ u
-          → means (cond t (passing 4 0 0 c) (cond u (passing 5 0 0 c) (unitArrival c f)))
-          ≡ cond (not (sound s)) (refused 1) (cond t (refused 4) (cond u (refused 5) (decide (drop 3 (dataChecks s p)) refused (done (accepted s p)))))
+          → means (cond t (passing 4 0 0 c) (cond u (passing 5 0 0 c) (unit_arrival c f)))
+          ≡ cond (not (sound s)) (refused 1) (cond t (refused 4) (cond u (refused 5) (decide (drop 3 (data_checks s p)) refused (done (accepted s p)))))
       go true u a b = rw h
       go false true a b = rw h
       go false false a b = rw h (unit-means h (not-foreign c acks bytes frames p.src p.ack b) (λ x. (rw h, (a, (b, x)))))

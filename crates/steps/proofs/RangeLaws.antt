@@ -5,22 +5,22 @@ use mathlib.Core.Path.{◌≡◌}
 use Prim.Native.Nat.{ℕ, ◌*◌, ◌≤◌}
 use native.Mathlib.Nat.{mul-le-mul}
 use native.Mathlib.Omega.{arith}
-use Rattle.rules.proofs.SlotsLaws.{firstFree-le}
-use Rattle.lists.specs.Order.{slotsIn, takens, freeOf}
+use Rattle.rules.proofs.SlotsLaws.{first_free-le}
+use Rattle.lists.specs.Order.{slots_in, takens, free_of}
 use Rattle.lists.specs.declared.Order.{Order}
 use Rattle.state.specs.declared.Core.{Core}
-use Rattle.state.specs.Soundness.{soundOf}
+use Rattle.state.specs.Soundness.{sound_of}
 use Rattle.state.proofs.RoomLaws.{sound-ranges}
 use Rattle.steps.specs.Checks.{Ranged}
 
 pub places-few : (c : Core) → Ranged c → 4 * c.w * c.n ≤ 128
 places-few c r = mul-le-mul {n₁ = 4 * c.w} {m₁ = c.n} {n₂ = 16} {m₂ = 8} (omega (arith, r.narrow)) r.few
 
-pub freeOf-le : (o : Order) (j most : ℕ) → freeOf o j most ≤ most
-unfolding freeOf
-freeOf-le o j most = omega (arith, firstFree-le (slotsIn j (takens o)) 0 most)
+pub free_of-le : (o : Order) (j most : ℕ) → free_of o j most ≤ most
+unfolding free_of
+free_of-le o j most = omega (arith, first_free-le (slots_in j (takens o)) 0 most)
 
-pub sound-ranged : (c : Core) (acks : List ℕ) → soundOf c acks ≡ true → Ranged c
+pub sound-ranged : (c : Core) (acks : List ℕ) → sound_of c acks ≡ true → Ranged c
 sound-ranged c acks h =
     let r = sound-ranges c acks h in
     record { own = r.i-low; unit = r.i-high; few = r.n-high; narrow = r.w-high }

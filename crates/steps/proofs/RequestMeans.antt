@@ -9,10 +9,10 @@ use lib.ListN.{drop}
 use Rattle.rules.specs.Maps.{between, at}
 use Rattle.rules.specs.Message.{Request, request}
 use Rattle.rules.specs.State.{State}
-use Rattle.rules.specs.Steps.{resentFrom}
+use Rattle.rules.specs.Steps.{resent_from}
 use Rattle.rules.specs.Sound.{sound}
 use Rattle.rules.specs.Calls as rules
-use Rattle.rules.specs.Calls.{Check, ◌⇒◌, decide, Result, is_unit, foreign, arriveRequest}
+use Rattle.rules.specs.Calls.{Check, ◌⇒◌, decide, Result, is_unit, foreign, arrive_request}
 use Rattle.rules.proofs.SoundLaws.{Ranges, sound-facts}
 use Rattle.state.specs.declared.Core.{Core}
 use Rattle.state.specs.View.{look}
@@ -20,9 +20,9 @@ use Rattle.state.proofs.LookLaws.{low-look}
 use Rattle.frame.specs.declared.Frame.{Frame}
 use Rattle.frame.specs.Frame.{frame_of}
 use Rattle.steps.specs.declared.Arrival.{Arrival}
-use Rattle.steps.specs.Arrival.{passing, requestArrival}
-use Rattle.steps.specs.Checks.{ofGroup, namesOther, asksWrongly, resendFrom, requestChecks}
-use Rattle.steps.specs.Means.{arrivedAs}
+use Rattle.steps.specs.Arrival.{passing, request_arrival}
+use Rattle.steps.specs.Checks.{of_group, names_other, asks_wrongly, resend_from, request_checks}
+use Rattle.steps.specs.Means.{arrived_as}
 use Rattle.steps.proofs.AckLaws.{at-eight}
 use Rattle.steps.proofs.ChecksLook.{group-look}
 use Rattle.rules.proofs.DecideLaws.{decide-answer, decide-map}
@@ -36,10 +36,10 @@ module _ (c : Core) (acks bytes frames : List ℕ) (r : Request) where
 
   -- ---- the checks
 
-  group-checks : not (ofGroup c f && namesOther c f) ≡ foreign s r.src r.ack || not (is_unit s r.lsrc) || eqb r.lsrc r.src
-  unfolding namesOther frame_of look
+  group-checks : not (of_group c f && names_other c f) ≡ foreign s r.src r.ack || not (is_unit s r.lsrc) || eqb r.lsrc r.src
+  unfolding names_other frame_of look
   group-checks =
-      regroup (ofGroup c f) (between 1 c.n r.lsrc) (eqb r.lsrc r.src)
+      regroup (of_group c f) (between 1 c.n r.lsrc) (eqb r.lsrc r.src)
       ∙ ap (λ (t : Bool). t || not (between 1 c.n r.lsrc) || eqb r.lsrc r.src) (group-look c acks bytes frames f r.ack refl)
     where
       regroup : (g u e : Bool) → not (g && (u && not e)) ≡ not g || not u || e
@@ -48,17 +48,17 @@ module _ (c : Core) (acks bytes frames : List ℕ) (r : Request) where
       regroup true false e = refl
       regroup false u e = refl
 
-  asks-look : asksWrongly c f ≡ ltb c.seq (at r.ack c.me) || ltb c.seq r.lseq || leb r.lseq (at r.ack c.me)
-  unfolding asksWrongly frame_of
+  asks-look : asks_wrongly c f ≡ ltb c.seq (at r.ack c.me) || ltb c.seq r.lseq || leb r.lseq (at r.ack c.me)
+  unfolding asks_wrongly frame_of
   asks-look = rw (at-eight r.ack c.me)
 
   module _ (R : Ranges c.me c.n c.w) where
-    resend-look : resendFrom c f ≡ resentFrom s r
-    unfolding resendFrom resentFrom frame_of look
+    resend-look : resend_from c f ≡ resent_from s r
+    unfolding resend_from resent_from frame_of look
     resend-look = rw (at-eight r.ack c.me, low-look c acks bytes frames R.i-low R.i-high)
 
-    request-checks : requestChecks c f ≡ drop 1 (rules.requestChecks s r)
-    unfolding rules.requestChecks look frame_of
+    request-checks : request_checks c f ≡ drop 1 (rules.request_checks s r)
+    unfolding rules.request_checks look frame_of
     request-checks i =
         (not (eqb r.cid c.cid) ⇒ 4)
         ∷ (group-checks i ⇒ 5)
@@ -71,16 +71,16 @@ module _ (c : Core) (acks bytes frames : List ℕ) (r : Request) where
   -- ---- the whole
 
   abbrev means : Arrival → Result
-  means a = arrivedAs a acks bytes frames []
+  means a = arrived_as a acks bytes frames []
 
-  pub request-means : sound s ≡ true → means (requestArrival c f) ≡ arriveRequest s r
-  unfolding requestArrival arriveRequest rules.requestChecks arrivedAs look frame_of
+  pub request-means : sound s ≡ true → means (request_arrival c f) ≡ arrive_request s r
+  unfolding request_arrival arrive_request rules.request_checks arrived_as look frame_of
   request-means h =
       let R = (sound-facts s h).ranges in
-      let answer : Arrival = passing 0 (resendFrom c f) (r.lseq - 1) c in
+      let answer : Arrival = passing 0 (resend_from c f) (r.lseq - 1) c in
       let passes : ℕ → Arrival = (λ a. passing a 0 0 c) in
-      ap means (decide-answer passes answer (requestChecks c f) refl)
+      ap means (decide-answer passes answer (request_checks c f) refl)
       ∙ ap (λ (l : List Check). means (decide l passes answer)) (request-checks R)
-      ∙ decide-map means passes answer _ _ (drop 1 (rules.requestChecks s r)) (λ a x. refl)
+      ∙ decide-map means passes answer _ _ (drop 1 (rules.request_checks s r)) (λ a x. refl)
       (λ p. ap (λ (x : ℕ). record { answer = 0; numbers = x ∷ (r.lseq - 1) ∷ []; next = s; output = [] }) (resend-look R))
       ∙ rw h

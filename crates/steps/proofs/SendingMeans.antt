@@ -10,7 +10,7 @@ use borrow.Author.Tests.{ne_eqb}
 use Rattle.rules.specs.Maps.{at, least, units}
 use Rattle.rules.specs.Message.{Message, last}
 use Rattle.rules.specs.State.{State}
-use Rattle.rules.specs.Steps.{window, maySend, outgoing, sent}
+use Rattle.rules.specs.Steps.{window, may_send, outgoing, sent}
 use Rattle.rules.specs.Sound.{sound}
 use Rattle.rules.specs.Calls as rules
 use Rattle.rules.specs.Calls.{Check, ◌⇒◌, decide, Result, refusal, written, send}
@@ -23,22 +23,22 @@ use Rattle.rules.proofs.CallSound.{send-storable}
 use Rattle.tables.proofs.GridLaws.{grid-row, least-grid}
 use Rattle.lists.specs.View.{Whole}
 use Rattle.state.specs.declared.Core.{Core}
-use Rattle.state.specs.View.{freePlaces, look}
-use Rattle.state.specs.Soundness.{soundOf}
+use Rattle.state.specs.View.{free_places, look}
+use Rattle.state.specs.Soundness.{sound_of}
 use Rattle.state.proofs.LookLaws.{low-look, places-look}
 use Rattle.state.proofs.SoundLaws.{sound-look}
 use Rattle.state.proofs.RoomLaws.{sound-whole}
 use Rattle.state.proofs.UnitsLaws.{part-units, take-units}
-use Rattle.store.specs.Arrays.{withFrame}
-use Rattle.store.specs.Store.{keptSlot, keepingOf}
+use Rattle.store.specs.Arrays.{with_frame}
+use Rattle.store.specs.Store.{kept_slot, keeping_of}
 use Rattle.store.specs.Fits.{Sized, Says, Keeps}
 use Rattle.store.proofs.KeepingLook.{keeping-look}
-use Rattle.store.proofs.AcceptedLook.{acceptedLook, framed, kept, sent-look}
+use Rattle.store.proofs.AcceptedLook.{accepted_look, framed, kept, sent-look}
 use Rattle.store.proofs.Supplied.{storable-fits, storable-goes, sends-keeps, keeping-sized}
 use Rattle.steps.specs.declared.Sending.{Sending}
-use Rattle.steps.specs.Checks.{windowOpen, sendChecks}
-use Rattle.steps.specs.Sending.{frameLength, refusedSend, ownAccepting, sendingOwn, sendingChecked, sendingOf}
-use Rattle.steps.specs.Means.{Shaped, ownFrame, sentAs}
+use Rattle.steps.specs.Checks.{window_open, send_checks}
+use Rattle.steps.specs.Sending.{frame_length, refused_send, own_accepting, sending_own, sending_checked, sending_of}
+use Rattle.steps.specs.Means.{Shaped, own_frame, sent_as}
 use Rattle.steps.proofs.ChecksLook.{full-look}
 use Rattle.rules.proofs.DecideLaws.{decide-answer, decide-map}
 use Rattle.steps.proofs.PlaceLook.{Taking, taking}
@@ -57,12 +57,12 @@ module _ (c : Core) (acks bytes frames : List ℕ) (Z : Shaped c acks bytes fram
 
   -- ---- the checks
 
-  window-look : Ranges c.me c.n c.w → windowOpen c ≡ maySend s
-  unfolding windowOpen maySend window look
+  window-look : Ranges c.me c.n c.w → window_open c ≡ may_send s
+  unfolding window_open may_send window look
   window-look R = rw (low-look c acks bytes frames R.i-low R.i-high, least-units c.n c.buf (omega arith))
 
-  send-checks : Ranges c.me c.n c.w → Whole c.n c.order → sendChecks c (length d) (length out) ≡ drop 1 (rules.sendChecks s d out)
-  unfolding rules.sendChecks look
+  send-checks : Ranges c.me c.n c.w → Whole c.n c.order → send_checks c (length d) (length out) ≡ drop 1 (rules.send_checks s d out)
+  unfolding rules.send_checks look
   send-checks R W i =
       (ltb 48 (length d) ⇒ 13)
       ∷ (leb last c.seq ⇒ 14)
@@ -73,12 +73,12 @@ module _ (c : Core) (acks bytes frames : List ℕ) (Z : Shaped c acks bytes fram
 
   -- ---- the message, and its frame
 
-  own-frame : c.n ≤ 8 → ownFrame c (freePlaces c) d ≡ framed q
-  unfolding ownFrame outgoing look
+  own-frame : c.n ≤ 8 → own_frame c (free_places c) d ≡ framed q
+  unfolding own_frame outgoing look
   own-frame most = rw (take-units c.n c.req (omega (arith, Z.sized.req)), places-look c acks bytes frames)
 
-  frame-length : Sound s → frameLength c (length d) ≡ length (framed q)
-  unfolding frameLength outgoing look
+  frame-length : Sound s → frame_length c (length d) ≡ length (framed q)
+  unfolding frame_length outgoing look
   frame-length F = omega (arith, length-message q, (outgoing-carries s d F).count)
 
   -- ---- done
@@ -93,10 +93,10 @@ module _ (c : Core) (acks bytes frames : List ℕ) (Z : Shaped c acks bytes fram
     new = kept c q
 
     abbrev slots : List ℕ
-    slots = withFrame frames (keptSlot c) (framed q)
+    slots = with_frame frames (kept_slot c) (framed q)
 
-    says : Says new (ownAccepting c (length d)) d q
-    unfolding keepingOf outgoing look
+    says : Says new (own_accepting c (length d)) d q
+    unfolding keeping_of outgoing look
     says =
         let R = A.sound.ranges in
         let T : Taking c c.me = taking c acks bytes frames R.w-high W c.me R.i-low A.room in
@@ -111,14 +111,14 @@ module _ (c : Core) (acks bytes frames : List ℕ) (Z : Shaped c acks bytes fram
           slot = T.slot;
         }
 
-    sent_means : acceptedLook new acks bytes slots (ownAccepting c (length d)) d ≡ sent s q
-    unfolding frameLength look
+    sent_means : accepted_look new acks bytes slots (own_accepting c (length d)) d ≡ sent s q
+    unfolding frame_length look
     sent_means =
-        sent-look c acks bytes frames (ownAccepting c (length d)) d q keeps short sized (storable-fits new acks bytes slots q sized storable)
-        (storable-goes new acks bytes slots q sized storable (ownAccepting c (length d)) d says) says
+        sent-look c acks bytes frames (own_accepting c (length d)) d q keeps short sized (storable-fits new acks bytes slots q sized storable)
+        (storable-goes new acks bytes slots q sized storable (own_accepting c (length d)) d says) says
       where
         keeps : Keeps c frames
-        keeps = sends-keeps c acks bytes frames d out Z.kept Z.frame-room A
+        keeps = sends-keeps c acks bytes frames d out Z.kept Z.frame_room A
 
         short : length (framed q) ≤ 117
         short = omega (arith, frame-length A.sound, A.short, A.sound.ranges.n-high)
@@ -129,10 +129,10 @@ module _ (c : Core) (acks bytes frames : List ℕ) (Z : Shaped c acks bytes fram
         storable : Storable (look new acks bytes slots) q
         storable = subst (λ (t : State). Storable t q) (sym (keeping-look c acks bytes frames q keeps short)) (send-storable s d out A)
 
-    done-means : sentAs (sendingOwn c (length d)) c acks bytes frames d out ≡ done (sent s q)
-    unfolding sentAs sendingOwn look
+    done-means : sent_as (sending_own c (length d)) c acks bytes frames d out ≡ done (sent s q)
+    unfolding sent_as sending_own look
     done-means =
-        ap (λ (f : List ℕ). shown f (frameLength c (length d))) (own-frame A.sound.ranges.n-high)
+        ap (λ (f : List ℕ). shown f (frame_length c (length d))) (own-frame A.sound.ranges.n-high)
         ∙ ap (shown (framed q)) (frame-length A.sound)
         ∙ ap done sent_means
       where
@@ -142,36 +142,36 @@ module _ (c : Core) (acks bytes frames : List ℕ) (Z : Shaped c acks bytes fram
             record {
               answer = 0;
               numbers = c.seq ∷ length f ∷ [];
-              next = acceptedLook (keepingOf c x) acks bytes (withFrame frames (keptSlot c) f) (ownAccepting c (length d)) d;
+              next = accepted_look (keeping_of c x) acks bytes (with_frame frames (kept_slot c) f) (own_accepting c (length d)) d;
               output = written out f;
             }
 
   -- ---- the whole
 
   abbrev means : Sending → Result
-  means r = sentAs r c acks bytes frames d out
+  means r = sent_as r c acks bytes frames d out
 
-  sound-means : soundOf c acks ≡ true → means (sendingChecked c (length d) (length out)) ≡ send s d out
-  unfolding sendingChecked sentAs send rules.sendChecks look
+  sound-means : sound_of c acks ≡ true → means (sending_checked c (length d) (length out)) ≡ send s d out
+  unfolding sending_checked sent_as send rules.send_checks look
   sound-means h =
       let e : sound s ≡ true = sym (sound-look c acks bytes frames) ∙ h in
       let R = (sound-facts s e).ranges in
       let W : Whole c.n c.order = sound-whole c acks Z.sized.list h in
-      let refuses : ℕ → Sending = (λ a. refusedSend a c) in
-      ap means (decide-answer refuses (sendingOwn c (length d)) (sendChecks c (length d) (length out)) refl)
-      ∙ ap (λ (l : List Check). means (decide l refuses (sendingOwn c (length d)))) (send-checks R W)
-      ∙ decide-map means refuses (sendingOwn c (length d)) (refusal 2 s out) (done (sent s q)) (drop 1 (rules.sendChecks s d out)) (λ a x. rw (ne_eqb a 0 (λ z. omega (arith, refused-above 0 x refl))))
+      let refuses : ℕ → Sending = (λ a. refused_send a c) in
+      ap means (decide-answer refuses (sending_own c (length d)) (send_checks c (length d) (length out)) refl)
+      ∙ ap (λ (l : List Check). means (decide l refuses (sending_own c (length d)))) (send-checks R W)
+      ∙ decide-map means refuses (sending_own c (length d)) (refusal 2 s out) (done (sent s q)) (drop 1 (rules.send_checks s d out)) (λ a x. rw (ne_eqb a 0 (λ z. omega (arith, refused-above 0 x refl))))
       (λ p. done-means W (passed-sends s d out (rw e, p)))
       ∙ rw e
 
 pub sending-means : (c : Core) (acks bytes frames : List ℕ) → Shaped c acks bytes frames → (d out : List ℕ)
-    → sentAs (sendingOf c acks (length d) (length out)) c acks bytes frames d out ≡ send (look c acks bytes frames) d out
-unfolding sendingOf sentAs send rules.sendChecks
-sending-means c acks bytes frames Z d out = go (soundOf c acks) refl
+    → sent_as (sending_of c acks (length d) (length out)) c acks bytes frames d out ≡ send (look c acks bytes frames) d out
+unfolding sending_of sent_as send rules.send_checks
+sending-means c acks bytes frames Z d out = go (sound_of c acks) refl
   where
     s : State
     s = look c acks bytes frames
 
-    go : (t : Bool) → soundOf c acks ≡ t → sentAs (cond t (sendingChecked c (length d) (length out)) (refusedSend 1 c)) c acks bytes frames d out ≡ send s d out
+    go : (t : Bool) → sound_of c acks ≡ t → sent_as (cond t (sending_checked c (length d) (length out)) (refused_send 1 c)) c acks bytes frames d out ≡ send s d out
     go true h = sound-means c acks bytes frames Z d out h
     go false h = rw (← sound-look c acks bytes frames, h)

@@ -3,10 +3,10 @@ use Rattle.std.specs.Prelude.{Bool, not, ◌&&◌, ◌||◌, List, [], ◌∷◌
 use Rattle.rules.specs.Maps.{between, at, least}
 use Rattle.rules.specs.Message.{last}
 use Rattle.rules.specs.Calls.{Check, ◌⇒◌}
-use Rattle.tables.specs.Rows.{belowBut, columnOf}
+use Rattle.tables.specs.Rows.{below_but, column_of}
 use Rattle.lists.specs.Order.{is_of, only, takens}
 use Rattle.state.specs.declared.Core.{Core}
-use Rattle.state.specs.Soundness.{ownLow}
+use Rattle.state.specs.Soundness.{own_low}
 use Rattle.frame.specs.declared.Frame.{Frame}
 
 -- i, n and W are in range: what the functions on a sound unit's numbers ask for
@@ -22,8 +22,8 @@ pub record FromUnit (c : Core) (f : Frame) : Type 0 where
   pub unit : f.src ≤ c.n
 
 -- the frame has n ACKs, and its sender is a unit
-unfoldable pub ofGroup : Core → Frame → Bool
-ofGroup c f = eqb f.n c.n && between 1 c.n f.src
+unfoldable pub of_group : Core → Frame → Bool
+of_group c f = eqb f.n c.n && between 1 c.n f.src
 
 -- ---- data
 
@@ -33,63 +33,63 @@ impossible c f =
     ltb c.seq (at f.ack c.me) || not (eqb (at f.ack f.src) f.seq) || ltb (4 * c.w * c.n) f.buf
 
 -- sender j has no free place
-unfoldable pub noPlace : Core → ℕ → Bool
-noPlace c j = leb (4 * c.w) (length (only (is_of j) (takens c.order)))
+unfoldable pub no_place : Core → ℕ → Bool
+no_place c j = leb (4 * c.w) (length (only (is_of j) (takens c.order)))
 
 -- a message of another unit that can be: whether it is its sender's turn, and whether it can be stored
-abbrev pub turnChecks : Core → Frame → List Check
-turnChecks c f =
+abbrev pub turn_checks : Core → Frame → List Check
+turn_checks c f =
     (ltb f.seq (at c.req f.src) ⇒ 8)
     ∷ (ltb (at c.req f.src) f.seq ⇒ 9)
-    ∷ (not (belowBut c.n f.src (at f.ack) (at c.req)) ⇒ 10)
-    ∷ (not (belowBut c.n 0 (at (columnOf c.al f.src)) (at f.ack)) ⇒ 11)
-    ∷ (noPlace c f.src ⇒ 12)
+    ∷ (not (below_but c.n f.src (at f.ack) (at c.req)) ⇒ 10)
+    ∷ (not (below_but c.n 0 (at (column_of c.al f.src)) (at f.ack)) ⇒ 11)
+    ∷ (no_place c f.src ⇒ 12)
     ∷ []
 
 -- a frame of this group, from a unit: whether it is its own, and whether what it says can be
-abbrev pub unitChecks : Core → Frame → List Check
-unitChecks c f = (eqb f.src c.me ⇒ 6) ∷ (impossible c f ⇒ 7) ∷ turnChecks c f
+abbrev pub unit_checks : Core → Frame → List Check
+unit_checks c f = (eqb f.src c.me ⇒ 6) ∷ (impossible c f ⇒ 7) ∷ turn_checks c f
 
 -- what comes before
-abbrev pub groupChecks : Core → Frame → List Check
-groupChecks c f = (not (eqb f.cid c.cid) ⇒ 4) ∷ (not (ofGroup c f) ⇒ 5) ∷ []
+abbrev pub group_checks : Core → Frame → List Check
+group_checks c f = (not (eqb f.cid c.cid) ⇒ 4) ∷ (not (of_group c f) ⇒ 5) ∷ []
 
 -- ---- requests
 
 -- it names a unit other than its sender
-unfoldable pub namesOther : Core → Frame → Bool
-namesOther c f = between 1 c.n f.lsrc && not (eqb f.lsrc f.src)
+unfoldable pub names_other : Core → Frame → Bool
+names_other c f = between 1 c.n f.lsrc && not (eqb f.lsrc f.src)
 
 -- it asks for numbers not sent yet, or for none
-unfoldable pub asksWrongly : Core → Frame → Bool
-asksWrongly c f =
+unfoldable pub asks_wrongly : Core → Frame → Bool
+asks_wrongly c f =
     ltb c.seq (at f.ack c.me) || ltb c.seq f.lseq || leb f.lseq (at f.ack c.me)
 
 -- the first number to resend
-unfoldable pub resendFrom : Core → Frame → ℕ
-resendFrom c f = max (at f.ack c.me) (ownLow c)
+unfoldable pub resend_from : Core → Frame → ℕ
+resend_from c f = max (at f.ack c.me) (own_low c)
 
-abbrev pub requestChecks : Core → Frame → List Check
-requestChecks c f =
+abbrev pub request_checks : Core → Frame → List Check
+request_checks c f =
     (not (eqb f.cid c.cid) ⇒ 4)
-    ∷ (not (ofGroup c f && namesOther c f) ⇒ 5)
+    ∷ (not (of_group c f && names_other c f) ⇒ 5)
     ∷ (eqb f.src c.me ⇒ 6)
     ∷ (not (eqb f.lsrc c.me) ⇒ 17)
-    ∷ (asksWrongly c f ⇒ 7)
-    ∷ (leb f.lseq (resendFrom c f) ⇒ 18)
+    ∷ (asks_wrongly c f ⇒ 7)
+    ∷ (leb f.lseq (resend_from c f) ⇒ 18)
     ∷ []
 
 -- ---- send
 
--- SEQ is below minAL of the own index plus the smaller of W and (least BUF divided by n)
-unfoldable pub windowOpen : Core → Bool
-windowOpen c = ltb c.seq (ownLow c + min c.w (least c.n (at c.buf) / c.n))
+-- SEQ is below min_al of the own index plus the smaller of W and (least BUF divided by n)
+unfoldable pub window_open : Core → Bool
+window_open c = ltb c.seq (own_low c + min c.w (least c.n (at c.buf) / c.n))
 
-abbrev pub sendChecks : Core → ℕ → ℕ → List Check
-sendChecks c len room =
+abbrev pub send_checks : Core → ℕ → ℕ → List Check
+send_checks c len room =
     (ltb 48 len ⇒ 13)
     ∷ (leb last c.seq ⇒ 14)
-    ∷ (not (windowOpen c) ⇒ 15)
-    ∷ (noPlace c c.me ⇒ 12)
+    ∷ (not (window_open c) ⇒ 15)
+    ∷ (no_place c c.me ⇒ 12)
     ∷ (ltb room (37 + 4 * c.n + len) ⇒ 16)
     ∷ []

@@ -5,7 +5,7 @@ use Rattle.rules.specs.State.{State}
 use Rattle.rules.specs.Calls.{Result, refusal, written}
 use Rattle.state.specs.declared.Core.{Core}
 use Rattle.state.specs.View.{look}
-use Rattle.store.specs.Arrays.{withAck, withText, withFrame, withoutFrames}
+use Rattle.store.specs.Arrays.{with_ack, with_text, with_frame, without_frames}
 use Rattle.store.specs.Fits.{Sized}
 use Rattle.store.specs.Store.{settled_of}
 use Rattle.steps.specs.declared.Arrival.{Arrival}
@@ -15,46 +15,46 @@ use Rattle.steps.specs.declared.Sending.{Sending}
 pub record Shaped (c : Core) (acks bytes frames : List ℕ) : Type 0 where
   pub sized : Sized c acks bytes
   pub kept : length c.kept ≡ 4
-  pub frame-room : length frames ≡ 468
+  pub frame_room : length frames ≡ 468
 
 -- the state that the numbers c show with these arrays, once they are settled
-abbrev pub settledLook : Core → List ℕ → List ℕ → List ℕ → State
-settledLook c acks bytes frames = look (settled_of c acks) acks bytes frames
+abbrev pub settled_look : Core → List ℕ → List ℕ → List ℕ → State
+settled_look c acks bytes frames = look (settled_of c acks) acks bytes frames
 
 -- Where the arrival stores, its ACK and the data `text` are written to its place, and the oldest frames dropped.
-unfoldable pub arrivedAs : Arrival → List ℕ → List ℕ → List ℕ → List ℕ → Result
-arrivedAs r acks bytes frames text =
+unfoldable pub arrived_as : Arrival → List ℕ → List ℕ → List ℕ → List ℕ → Result
+arrived_as r acks bytes frames text =
     record {
       answer = r.answer;
       numbers = r.first ∷ r.last ∷ [];
       next =
           cond r.stores
-          (settledLook r.core (withAck acks r.place r.ack) (withText bytes r.place text)
-          (withoutFrames frames r.gone))
+          (settled_look r.core (with_ack acks r.place r.ack) (with_text bytes r.place text)
+          (without_frames frames r.gone))
           (look r.core acks bytes frames);
       output = [];
     }
 
 -- the message that a send of the unit c carries, with this BUF and these data: its ACK is REQ
-abbrev pub ownMessage : Core → ℕ → List ℕ → Message
-ownMessage c buf d =
+abbrev pub own_message : Core → ℕ → List ℕ → Message
+own_message c buf d =
     record { cid = c.cid; src = c.me; seq = c.seq; ack = take c.n c.req; buf = buf; text = d }
 
-unfoldable pub ownFrame : Core → ℕ → List ℕ → List ℕ
-ownFrame c buf d = encode (message (ownMessage c buf d))
+unfoldable pub own_frame : Core → ℕ → List ℕ → List ℕ
+own_frame c buf d = encode (message (own_message c buf d))
 
 -- A send of the data d by the unit c that answers 0 writes its frame to the front of the output and to its slot, and
 -- REQ and d to its place; then the oldest frames are dropped.
-unfoldable pub sentAs : Sending → Core → List ℕ → List ℕ → List ℕ → List ℕ → List ℕ → Result
-sentAs r c acks bytes frames d out =
-    let f : List ℕ = ownFrame c r.buf d in
+unfoldable pub sent_as : Sending → Core → List ℕ → List ℕ → List ℕ → List ℕ → List ℕ → Result
+sent_as r c acks bytes frames d out =
+    let f : List ℕ = own_frame c r.buf d in
     cond (eqb r.answer 0)
     (record {
       answer = 0;
       numbers = c.seq ∷ length f ∷ [];
       next =
-          settledLook r.core (withAck acks r.place c.req) (withText bytes r.place d)
-          (withoutFrames (withFrame frames r.slot f) r.gone);
+          settled_look r.core (with_ack acks r.place c.req) (with_text bytes r.place d)
+          (without_frames (with_frame frames r.slot f) r.gone);
       output = written out f;
     })
     (refusal 2 (look c acks bytes frames) out r.answer)

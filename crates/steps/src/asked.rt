@@ -1,8 +1,8 @@
 // The arrival of a request.
 ghost use Rattle.std.specs.Prelude.{◌≡◌};
-ghost use Rattle.steps.specs.Arrival.{requestArrival};
+ghost use Rattle.steps.specs.Arrival.{request_arrival};
 ghost use Rattle.rules.specs.Calls.{answer_of};
-ghost use Rattle.steps.specs.Checks.{namesOther, asksWrongly, resendFrom, requestChecks};
+ghost use Rattle.steps.specs.Checks.{names_other, asks_wrongly, resend_from, request_checks};
 
 use crate::{Arrival, of_group, passed};
 use frame::Frame;
@@ -11,13 +11,13 @@ use state::Core;
 use tables;
 
 fn names_other(c: Core, f: Frame) -> bool
-    ensures { result ≡ namesOther c f }
+    ensures { result ≡ names_other c f }
 {
     state::is_unit(c.n, f.lsrc) && f.lsrc != f.src
 }
 
 fn asks_wrongly(c: Core, f: Frame) -> bool
-    ensures { result ≡ asksWrongly c f }
+    ensures { result ≡ asks_wrongly c f }
 {
     let own = tables::at(&f.ack, c.me);
     if c.seq < own {
@@ -31,13 +31,13 @@ fn asks_wrongly(c: Core, f: Frame) -> bool
 
 // The first number to resend.
 fn first(c: Core, f: Frame) -> u32
-    ensures { result ≡ resendFrom c f }
+    ensures { result ≡ resend_from c f }
 {
     tables::larger(tables::at(&f.ack, c.me), state::own_low(&c.al, c.me, c.n))
 }
 
 fn answer(c: Core, f: Frame) -> u32
-    ensures { result ≡ answer_of (requestChecks c f) }
+    ensures { result ≡ answer_of (request_checks c f) }
 {
     if f.cid != c.cid {
         return 4;
@@ -64,7 +64,7 @@ fn answer(c: Core, f: Frame) -> u32
 }
 
 pub fn arrived(c: Core, f: Frame) -> Arrival
-    ensures { result ≡ requestArrival c f }
+    ensures { result ≡ request_arrival c f }
 {
     let a = answer(c, f);
     if a == 0 {

@@ -1,8 +1,8 @@
 // The arrival of data.
 ghost use Rattle.std.specs.Prelude.{◌≡◌, ◌<◌};
-ghost use Rattle.steps.specs.Arrival.{noted_of, notes, storing, unitArrival, dataArrival};
+ghost use Rattle.steps.specs.Arrival.{noted_of, notes, storing, unit_arrival, data_arrival};
 ghost use Rattle.rules.specs.Calls.{answer_of};
-ghost use Rattle.steps.specs.Checks.{Ranged, FromUnit, impossible, turnChecks, unitChecks};
+ghost use Rattle.steps.specs.Checks.{Ranged, FromUnit, impossible, turn_checks, unit_checks};
 
 use crate::{Arrival, of_group, passed, place};
 use frame::Frame;
@@ -29,7 +29,7 @@ fn cannot_be(c: Core, f: Frame) -> bool
 // Whether it is the sender's turn: the next of its messages, and none that it knew of is missing here.
 fn turn(c: Core, f: Frame) -> u32
     requires { Ranged c × FromUnit c f }
-    ensures { result ≡ answer_of (turnChecks c f) }
+    ensures { result ≡ answer_of (turn_checks c f) }
 {
     let j = f.src as u8;
     let next = tables::at(&c.req, j);
@@ -54,7 +54,7 @@ fn turn(c: Core, f: Frame) -> u32
 
 fn answer(c: Core, f: Frame) -> u32
     requires { Ranged c × FromUnit c f }
-    ensures { result ≡ answer_of (unitChecks c f) }
+    ensures { result ≡ answer_of (unit_checks c f) }
 {
     if f.src == c.me as u32 {
         return 6;
@@ -126,7 +126,7 @@ fn notes(answer: u32) -> bool
 // The data come from a unit of the group.
 fn from_unit(c: Core, f: Frame) -> Arrival
     requires { (Ranged c × FromUnit c f) × (f.len < 256) }
-    ensures { result ≡ unitArrival c f }
+    ensures { result ≡ unit_arrival c f }
 {
     let a = answer(c, f);
     if a == 0 {
@@ -140,7 +140,7 @@ fn from_unit(c: Core, f: Frame) -> Arrival
 
 pub fn arrived(c: Core, f: Frame) -> Arrival
     requires { Ranged c × (f.len < 256) }
-    ensures { result ≡ dataArrival c f }
+    ensures { result ≡ data_arrival c f }
 {
     if f.cid != c.cid {
         return passed(4, 0, 0, c);

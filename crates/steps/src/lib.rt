@@ -6,9 +6,9 @@ mod place;
 
 ghost use Rattle.std.specs.Prelude.{◌≡◌};
 ghost use Rattle.rules.specs.Message.{decode};
-ghost use Rattle.steps.specs.Arrival.{arrivalOf, passing};
-ghost use Rattle.steps.specs.Checks.{ofGroup};
-ghost use Rattle.steps.specs.Sending.{sendingOf, refusedSend};
+ghost use Rattle.steps.specs.Arrival.{arrival_of, passing};
+ghost use Rattle.steps.specs.Checks.{of_group};
+ghost use Rattle.steps.specs.Sending.{sending_of, refused_send};
 
 use frame;
 use frame::Frame;
@@ -59,14 +59,14 @@ fn passed(answer: u32, first: u32, last: u32, c: Core) -> Arrival
 
 // Whether f is of this group: n ACKs, and a sender that is a unit.
 fn of_group(c: Core, f: Frame) -> bool
-    ensures { result ≡ ofGroup c f }
+    ensures { result ≡ of_group c f }
 {
     f.n == c.n as usize && state::is_unit(c.n, f.src)
 }
 
 // The bytes s arrive.
 pub fn arrive<'a>(c: Core, acks: &'a [u32], s: &'a [u8]) -> Arrival
-    ensures { result ≡ arrivalOf c acks.now (decode s.now) }
+    ensures { result ≡ arrival_of c acks.now (decode s.now) }
 {
     if !state::sound(c, acks) {
         return passed(1, 0, 0, c);
@@ -83,7 +83,7 @@ pub fn arrive<'a>(c: Core, acks: &'a [u32], s: &'a [u8]) -> Arrival
 }
 
 fn refused(answer: u32, c: Core) -> Sending
-    ensures { result ≡ refusedSend answer c }
+    ensures { result ≡ refused_send answer c }
 {
     Sending {
         answer,
@@ -97,7 +97,7 @@ fn refused(answer: u32, c: Core) -> Sending
 
 // Data of len bytes are sent, with room bytes of output.
 pub fn send(c: Core, acks: &[u32], len: usize, room: usize) -> Sending
-    ensures { result ≡ sendingOf c acks.now len room }
+    ensures { result ≡ sending_of c acks.now len room }
 {
     if !state::sound(c, acks) {
         return refused(1, c);

@@ -1,8 +1,8 @@
 // A send.
 ghost use Rattle.std.specs.Prelude.{◌≡◌, ◌≤◌};
 ghost use Rattle.rules.specs.Calls.{answer_of};
-ghost use Rattle.steps.specs.Checks.{Ranged, windowOpen, sendChecks};
-ghost use Rattle.steps.specs.Sending.{sendingOwn, sendingChecked};
+ghost use Rattle.steps.specs.Checks.{Ranged, window_open, send_checks};
+ghost use Rattle.steps.specs.Sending.{sending_own, sending_checked};
 
 use crate::{Sending, place, refused};
 use state;
@@ -14,7 +14,7 @@ use tables;
 // SEQ is inside the window; the sum may pass 32 bits.
 fn window_open(c: Core) -> bool
     requires { Ranged c }
-    ensures { result ≡ windowOpen c }
+    ensures { result ≡ window_open c }
 {
     let share = tables::least_of(&c.buf, c.n) / (c.n as u32);
     let ahead = tables::lesser(c.w as u32, share);
@@ -23,7 +23,7 @@ fn window_open(c: Core) -> bool
 
 fn answer(c: Core, len: usize, room: usize) -> u32
     requires { Ranged c }
-    ensures { result ≡ answer_of (sendChecks c len room) }
+    ensures { result ≡ answer_of (send_checks c len room) }
 {
     if 48 < len {
         return 13;
@@ -46,7 +46,7 @@ fn answer(c: Core, len: usize, room: usize) -> u32
 // The frame is kept, and its message stored at the first free place.
 fn kept(c: Core, len: usize) -> Sending
     requires { Ranged c × (len ≤ 48) }
-    ensures { result ≡ sendingOwn c len }
+    ensures { result ≡ sending_own c len }
 {
     let ack = c.req;
     let buf = state::free_places(c);
@@ -73,7 +73,7 @@ fn kept(c: Core, len: usize) -> Sending
 
 pub fn checked(c: Core, len: usize, room: usize) -> Sending
     requires { Ranged c }
-    ensures { result ≡ sendingChecked c len room }
+    ensures { result ≡ sending_checked c len room }
 {
     let a = answer(c, len, room);
     if a == 0 {

@@ -1,7 +1,7 @@
 // The places of a sender.
 ghost use Rattle.std.specs.Prelude.{◌≡◌, ◌≤◌};
-ghost use Rattle.steps.specs.Arrival.{freePlace};
-ghost use Rattle.steps.specs.Checks.{noPlace};
+ghost use Rattle.steps.specs.Arrival.{free_place};
+ghost use Rattle.steps.specs.Checks.{no_place};
 
 use lists;
 use state::Core;
@@ -9,7 +9,7 @@ use state::Core;
 // The first free place of sender j.
 pub fn first_free(c: Core, j: u8) -> u8
     requires { (c.w ≤ 4) × ((1 ≤ j) × (j ≤ 8)) }
-    ensures { result ≡ freePlace c j }
+    ensures { result ≡ free_place c j }
 {
     let order = c.order;
     16 * (j - 1) + lists::free_slot(order, j, 4 * c.w)
@@ -17,7 +17,7 @@ pub fn first_free(c: Core, j: u8) -> u8
 
 // Sender j has no free place.
 pub fn none_free(c: Core, j: u8) -> bool
-    ensures { result ≡ noPlace c j }
+    ensures { result ≡ no_place c j }
 {
     let order = c.order;
     4 * (c.w as usize) <= lists::taken_of(order, j)

@@ -2,7 +2,7 @@
 pub mod arrays;
 
 ghost use Rattle.std.specs.Prelude.{◌≡◌};
-ghost use Rattle.store.specs.Store.{keptSlot, columnStored, numbersStored, placeStored, storedOf, keepingOf, settled_of};
+ghost use Rattle.store.specs.Store.{kept_slot, column_stored, numbers_stored, place_stored, stored_of, keeping_of, settled_of};
 
 use lists;
 use state::{Core, own_low};
@@ -27,14 +27,14 @@ pub struct Next {
 
 // The slot of the frame to keep next.
 pub fn kept_slot(c: Core) -> u32
-    ensures { result ≡ keptSlot c }
+    ensures { result ≡ kept_slot c }
 {
     tables::above(c.seq, own_low(&c.al, c.me, c.n))
 }
 
-// With column j of AL; kept lengths start at minAL of the own index.
+// With column j of AL; kept lengths start at min_al of the own index.
 fn column_stored(c: Core, j: u8, ack: [u32; 8]) -> Next
-    ensures { result ≡ columnStored c j ack }
+    ensures { result ≡ column_stored c j ack }
 {
     let al = c.al;
     let old = own_low(&al, c.me, c.n);
@@ -50,7 +50,7 @@ fn column_stored(c: Core, j: u8, ack: [u32; 8]) -> Next
 
 // With REQ_j, BUF_j and HEARD_j.
 fn numbers_stored(c: Core, j: u8, next: u32, buf: u32) -> Core
-    ensures { result ≡ numbersStored c j next buf }
+    ensures { result ≡ numbers_stored c j next buf }
 {
     let req = c.req;
     let bufs = c.buf;
@@ -67,7 +67,7 @@ fn numbers_stored(c: Core, j: u8, next: u32, buf: u32) -> Core
 
 // With number and data length of the message at the place, which waits behind all others.
 fn place_stored(c: Core, place: u8, seq: u32, len: u8) -> Core
-    ensures { result ≡ placeStored c place seq len }
+    ensures { result ≡ place_stored c place seq len }
 {
     let mut seqs = c.seqs;
     let mut lens = c.lens;
@@ -87,7 +87,7 @@ fn place_stored(c: Core, place: u8, seq: u32, len: u8) -> Core
 
 // Accepts a message.
 pub fn stored(c: Core, m: Accepting) -> Next
-    ensures { result ≡ storedOf c m }
+    ensures { result ≡ stored_of c m }
 {
     let j = m.place / 16 + 1;
     let ack = m.ack;
@@ -103,7 +103,7 @@ pub fn stored(c: Core, m: Accepting) -> Next
 
 // Keeps a frame of this length.
 pub fn keeping(c: Core, len: u8) -> Core
-    ensures { result ≡ keepingOf c len }
+    ensures { result ≡ keeping_of c len }
 {
     let at = kept_slot(c) as usize;
     let next = tables::next(c.seq);

@@ -10,8 +10,8 @@ use lib.ListN.{length, get_or, drop, get_or-eq_default}
 use lib.Seq.{get_or-drop}
 use borrow.Author.Tests.{ne_eqb}
 use Rattle.rules.specs.Maps.{between, units, at, column, least}
-use Rattle.rules.proofs.MapsLaws.{Lt?, lt, ge, lt?, between-low, between-high, is-between, units_in, least-mono, getD-listed}
-use Rattle.tables.specs.Rows.{part, row_of, grid, withColumn}
+use Rattle.rules.proofs.MapsLaws.{Lt?, lt, ge, lt?, between-low, between-high, is-between, units_in, least-mono, get_or-listed}
+use Rattle.tables.specs.Rows.{part, row_of, grid, with_column}
 use Rattle.tables.proofs.ListedLaws.{length_part}
 use Rattle.tables.proofs.RowLaws.{at_before}
 
@@ -34,7 +34,7 @@ module _ (l : List ℕ) where
   at_from a k h = sym (at_before (drop a l) k (λ e. omega arith)) ∙ get_or-drop a l (k - 1) 0
 
   pub at_part : (a n k : ℕ) → 1 ≤ k → k ≤ n → at (part l a n) k ≡ get_or l (a + (k - 1)) 0
-  at_part a n k h e = sym (at_before (part l a n) k (λ x. omega arith)) ∙ getD-listed a n (λ i. get_or l i 0) (k - 1) (omega arith)
+  at_part a n k h e = sym (at_before (part l a n) k (λ x. omega arith)) ∙ get_or-listed a n (λ i. get_or l i 0) (k - 1) (omega arith)
 
   at-part-outside : (a n k : ℕ) → (1 ≤ k → k ≤ n → ⊥) → at (part l a n) k ≡ 0
   at-part-outside a n zero h = refl
@@ -63,14 +63,14 @@ least-grid n t k a b =
 
 module _ (n : ℕ) (most : n ≤ 8) (t v : List ℕ) (a j : ℕ) (low : 1 ≤ j) (high : j ≤ n) where
   abbrev new : List ℕ
-  new = withColumn t j (drop a v)
+  new = with_column t j (drop a v)
 
   -- a cell of the new table
   cell : (k c : ℕ) → 1 ≤ k → k ≤ n → 1 ≤ c → c ≤ n → at (row_of new k) c ≡ cond (eqb c j) (at (part v a n) k) (at (row_of t k) c)
-  unfolding withColumn
+  unfolding with_column
   cell k c k-low k-high c-low c-high =
       at_from new (8 * (k - 1)) c c-low
-      ∙ getD-listed 0 64 written q (omega arith)
+      ∙ get_or-listed 0 64 written q (omega arith)
       ∙ ap written (zero-add q)
       ∙ ap (λ (i : ℕ). cond (eqb i j) (get_or (drop a v) (q / 8) 0) (get_or t q 0)) (let e : q % 8 + 1 ≡ c = omega arith in e)
       ∙ ap (λ (i : ℕ). cond (eqb c j) (get_or (drop a v) i 0) (get_or t q 0)) (let e : q / 8 ≡ k - 1 = omega arith in e)

@@ -15,20 +15,20 @@ unfoldable pub grid : ℕ → List ℕ → ℕ → ℕ → ℕ
 grid n t k j = cond (between 1 n k) (units n (at (row_of t k)) j) 0
 
 -- none of f 1 to f n is 0
-unfoldable pub noneZero : ℕ → (ℕ → ℕ) → Bool
-noneZero n f = every 1 n (λ k. ltb 0 (f k))
+unfoldable pub none_zero : ℕ → (ℕ → ℕ) → Bool
+none_zero n f = every 1 n (λ k. ltb 0 (f k))
 
 -- f k is at most g k, for each k from 1 to n other than j
-unfoldable pub belowBut : ℕ → ℕ → (ℕ → ℕ) → (ℕ → ℕ) → Bool
-belowBut n j f g = every 1 n (λ k. cond (eqb k j) true (leb (f k) (g k)))
+unfoldable pub below_but : ℕ → ℕ → (ℕ → ℕ) → (ℕ → ℕ) → Bool
+below_but n j f g = every 1 n (λ k. cond (eqb k j) true (leb (f k) (g k)))
 
 -- the table with v as column j
-unfoldable pub withColumn : List ℕ → ℕ → List ℕ → List ℕ
-withColumn t j v = listed 0 64 (λ q. cond (eqb (q % 8 + 1) j) (get_or v (q / 8) 0) (get_or t q 0))
+unfoldable pub with_column : List ℕ → ℕ → List ℕ → List ℕ
+with_column t j v = listed 0 64 (λ q. cond (eqb (q % 8 + 1) j) (get_or v (q / 8) 0) (get_or t q 0))
 
 -- column j of the table
-unfoldable pub columnOf : List ℕ → ℕ → List ℕ
-columnOf t j = listed 0 8 (λ k. at (drop (8 * k) t) j)
+unfoldable pub column_of : List ℕ → ℕ → List ℕ
+column_of t j = listed 0 8 (λ k. at (drop (8 * k) t) j)
 
 -- each of the first n of a raised to at least that of b
 unfoldable pub raised : ℕ → List ℕ → List ℕ → List ℕ

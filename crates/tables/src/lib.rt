@@ -2,7 +2,7 @@
 ghost use Rattle.std.specs.Prelude.{◌≡◌, ◌+◌, ◌-◌, ◌*◌, ◌<◌, min, max, get_or, take, drop, set};
 ghost use Rattle.std.proofs.lemmas.List.Edits.{sets};
 ghost use Rattle.rules.specs.Maps.{at, least, every};
-ghost use Rattle.tables.specs.Rows.{row_of, noneZero, belowBut, withColumn, columnOf, raised};
+ghost use Rattle.tables.specs.Rows.{row_of, none_zero, below_but, with_column, column_of, raised};
 
 // The smaller of two.
 pub fn lesser(a: u32, b: u32) -> u32
@@ -127,7 +127,7 @@ pub fn least_of(a: &[u32], n: u8) -> u32
 
 // None of the first n numbers is 0.
 pub fn none_zero(a: &[u32], n: u8) -> bool
-    ensures { result ≡ noneZero n (at a.now) }
+    ensures { result ≡ none_zero n (at a.now) }
 {
     let mut k: u8 = 0;
     while k < n {
@@ -141,7 +141,7 @@ pub fn none_zero(a: &[u32], n: u8) -> bool
 
 // None of the first n numbers of the first n rows is 0.
 pub fn table_none_zero(t: &[u32], n: u8) -> bool
-    ensures { result ≡ every 1 n (λ k. noneZero n (at (row_of t.now k))) }
+    ensures { result ≡ every 1 n (λ k. none_zero n (at (row_of t.now k))) }
 {
     let mut k: u8 = 0;
     while k < n {
@@ -155,7 +155,7 @@ pub fn table_none_zero(t: &[u32], n: u8) -> bool
 
 // Each of the first n numbers but the j-th is at most that of the limits.
 pub fn below_but<'a>(a: &'a [u32], limits: &'a [u32], n: u8, j: u8) -> bool
-    ensures { result ≡ belowBut n j (at a.now) (at limits.now) }
+    ensures { result ≡ below_but n j (at a.now) (at limits.now) }
 {
     let mut k: u8 = 0;
     while k < n {
@@ -172,7 +172,7 @@ pub fn below_but<'a>(a: &'a [u32], limits: &'a [u32], n: u8, j: u8) -> bool
 
 // The table with the first eight of v as column j.
 pub fn with_column(t: [u32; 64], j: u8, v: &[u32]) -> [u32; 64]
-    ensures { result ≡ withColumn t j v.now }
+    ensures { result ≡ with_column t j v.now }
 {
     let mut b = t;
     let c = j as usize;
@@ -188,7 +188,7 @@ pub fn with_column(t: [u32; 64], j: u8, v: &[u32]) -> [u32; 64]
 
 // Column j of the table.
 pub fn column_of(t: &[u32], j: u8) -> [u32; 8]
-    ensures { result ≡ columnOf t.now j }
+    ensures { result ≡ column_of t.now j }
 {
     let mut a = [0u32; 8];
     let mut k: usize = 0;

@@ -13,7 +13,7 @@ use Rattle.unit.specs.declared.Opened.{Opened}
 use Rattle.unit.specs.declared.Sent.{Sent}
 use Rattle.unit.specs.declared.Arrived.{Arrived}
 use Rattle.unit.specs.declared.Taken.{Taken}
-use Rattle.unit.specs.Contracts.{Opens, Sends, Arrives, Asks, Copies, Takes, Looks, Tests}
+use Rattle.unit.specs.CallContracts.{Opens, Sends, Arrives, Asks, Copies, Takes, Looks, Tests}
 
 pub open-determined : (o : Opening) (r q : Opened) → Opens o r → Opens o q → r ≡ q
 open-determined o r q a b = a.exact ∙ sym b.exact

@@ -18,9 +18,9 @@ shaped u v good =
         seqs = search rules;
         lens = search rules;
         list = let order = good.0.1.1.1.1.1.1.1.1.1.1.1.1.1 in search rules;
-        ack-room = search rules;
-        text-room = search rules;
+        ack_room = search rules;
+        text_room = search rules;
       };
       kept = search rules;
-      frame-room = search rules;
+      frame_room = search rules;
     }

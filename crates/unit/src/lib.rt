@@ -1,8 +1,8 @@
 // The unit of a cab: one value, opened once, and the calls on it.
 ghost use Rattle.rules.specs.Looks as rules;
-ghost use Rattle.handing.specs.Looks.{toTakeIn, freePlacesIn, keptNumbersIn, missingIn, waitingIn};
+ghost use Rattle.handing.specs.Looks.{to_take_in, free_places_in, kept_numbers_in, missing_in, waiting_in};
 ghost use Rattle.unit.specs.View.{view};
-ghost use Rattle.unit.specs.Contracts.{Opens, Sends, Arrives, Asks, Copies, Takes, Looks, Tests};
+ghost use Rattle.unit.specs.CallContracts.{Opens, Sends, Arrives, Asks, Copies, Takes, Looks, Tests};
 
 use frame;
 use framewrite;
@@ -187,7 +187,7 @@ impl Unit {
 
     // How many messages can be taken. Looks answer 1 where the unit is not sound, and 5 where k is no unit.
     pub fn to_take(self) -> Look
-        ensures { Looks (toTakeIn self.core self.acks) (rules.toTake (view self)) result }
+        ensures { Looks (to_take_in self.core self.acks) (rules.to_take (view self)) result }
     {
         let c = self.core;
         looks::to_take(c, &self.acks)
@@ -195,7 +195,7 @@ impl Unit {
 
     // How many places are free.
     pub fn free_places(self) -> Look
-        ensures { Looks (freePlacesIn self.core self.acks) (rules.freePlaces (view self)) result }
+        ensures { Looks (free_places_in self.core self.acks) (rules.free_places (view self)) result }
     {
         let c = self.core;
         looks::free_places(c, &self.acks)
@@ -203,7 +203,7 @@ impl Unit {
 
     // The kept numbers.
     pub fn kept_numbers(self) -> Look
-        ensures { Looks (keptNumbersIn self.core self.acks) (rules.keptNumbers (view self)) result }
+        ensures { Looks (kept_numbers_in self.core self.acks) (rules.kept_numbers (view self)) result }
     {
         let c = self.core;
         looks::kept_numbers(c, &self.acks)
@@ -211,7 +211,7 @@ impl Unit {
 
     // The missing numbers of unit k.
     pub fn missing_of(self, k: u8) -> Look
-        ensures { Looks (missingIn self.core self.acks k) (rules.missingOf (view self) k) result }
+        ensures { Looks (missing_in self.core self.acks k) (rules.missing_of (view self) k) result }
     {
         let c = self.core;
         looks::missing_of(c, &self.acks, k)
@@ -219,7 +219,7 @@ impl Unit {
 
     // How many of unit k's messages wait.
     pub fn waiting_of(self, k: u8) -> Look
-        ensures { Looks (waitingIn self.core self.acks k) (rules.waitingOf (view self) k) result }
+        ensures { Looks (waiting_in self.core self.acks k) (rules.waiting_of (view self) k) result }
     {
         let c = self.core;
         looks::waiting_of(c, &self.acks, k)

@@ -5,14 +5,14 @@ use mathlib.Core.Path.{◌≡◌, refl, sym, ◌∙◌}
 use lib.ListN.{length}
 use Rattle.handing.specs.Handing.{Given}
 use Rattle.unit.specs.declared.Taken.{Taken}
-use Rattle.drive.specs.Run.{allTaken}
+use Rattle.drive.specs.Run.{all_taken}
 use Rattle.drive.proofs.Taking.{take-given, taken_none, taken-stop, taken_more}
 use Rattle.drive.proofs.all_taken.Statement.{statement}
 use Rattle.drive.proofs.all_taken.Tie as tie
 
 abbrev invariant-loop : tie.invariant-loop
 invariant-loop before sum₀ out₀ t₀ left₀ sum out t left =
-    (length out ≡ 16) × (allTaken left (record { result = t; output = out }) sum ≡ allTaken left₀ (record { result = t₀; output = out₀ }) sum₀)
+    (length out ≡ 16) × (all_taken left (record { result = t; output = out }) sum ≡ all_taken left₀ (record { result = t₀; output = out₀ }) sum₀)
 
 abbrev decreases-loop : tie.decreases-loop
 decreases-loop before sum₀ out₀ t₀ left₀ sum out t left = left

@@ -5,12 +5,12 @@ use mathlib.Core.Path.{◌≡◌, ap, ◌∙◌}
 use Prim.Native.Nat.{suc, ◌+◌, ◌-◌, ◌≤◌}
 use lib.ListN.{replicate}
 use Rattle.unit.specs.declared.Opened.{Opened}
-use Rattle.drive.specs.Run.{openedUnits}
+use Rattle.drive.specs.Run.{opened_units}
 use Rattle.drive.proofs.opened.Statement.{statement}
 use Rattle.drive.proofs.opened.Tie as tie
 
 abbrev invariant-loop : tie.invariant-loop
-invariant-loop n w units₀ k₀ units k = (k ≤ 8) × (units ≡ openedUnits n w k)
+invariant-loop n w units₀ k₀ units k = (k ≤ 8) × (units ≡ opened_units n w k)
 
 abbrev decreases-loop : tie.decreases-loop
 decreases-loop n w units₀ k₀ units k = 8 - k
@@ -47,14 +47,14 @@ loop-again c =
     let b = c.before.before.before in
     let a = b.before.before.before.args in
     let one_more : suc b.loop.k ≡ b.loop.k + 1 = omega arith in
-    (omega arith, rw (b.loop.invariant.1, c.before.open2.ensures.exact) (ap (openedUnits a.n a.w) one_more))
+    (omega arith, rw (b.loop.invariant.1, c.before.open2.ensures.exact) (ap (opened_units a.n a.w) one_more))
 
 returns : tie.Need-returns invariant-loop decreases-loop
 returns c =
     let b = c.before in
     let a = b.before.before.before.args in
     let all : b.loop.k ≡ 8 = omega arith in
-    b.loop.invariant.1 ∙ ap (openedUnits a.n a.w) all
+    b.loop.invariant.1 ∙ ap (opened_units a.n a.w) all
 
 pub opened-spec : {M : Type 1} → statement M
 opened-spec =

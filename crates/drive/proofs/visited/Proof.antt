@@ -3,7 +3,7 @@ use borrow.Author.Rules.{rules}
 use native.Mathlib.Omega.{arith}
 use mathlib.Core.Path.{refl, sym}
 use lib.Seq.{length-take-le}
-use Rattle.drive.specs.Run.{visitOf}
+use Rattle.drive.specs.Run.{visit_of}
 use Rattle.drive.proofs.visited.Statement.{statement}
 use Rattle.drive.proofs.visited.Tie as tie
 
@@ -17,7 +17,7 @@ same_length : tie.Need-same-length
 same_length c = search rules
 
 returns : tie.Need-returns
-unfolding visitOf
+unfolding visit_of
 returns c =
     let b = c.before.before.before.before in
     rw b.before.before.if1.true
@@ -39,7 +39,7 @@ same-length-2 : tie.Need-same-length-2
 same-length-2 c = search rules
 
 returns-2 : tie.Need-returns-2
-unfolding visitOf
+unfolding visit_of
 returns-2 c =
     let b = c.before.before in
     rw b.before.before.if1.false (record { result = rw (← b.arrive.ensures.exact) c.all-taken2.ensures; output = refl })

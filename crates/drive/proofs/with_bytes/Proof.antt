@@ -4,13 +4,13 @@ use native.Mathlib.Omega.{arith}
 use mathlib.Core.Path.{◌≡◌, sym, ◌∙◌}
 use Prim.Native.Nat.{◌-◌, ◌≤◌}
 use lib.ListN.{length, drop}
-use Rattle.drive.specs.Run.{withBytes}
+use Rattle.drive.specs.Run.{with_bytes}
 use Rattle.drive.proofs.Sums.{bytes-more, bytes-all}
 use Rattle.drive.proofs.with_bytes.Statement.{statement}
 use Rattle.drive.proofs.with_bytes.Tie as tie
 
 abbrev invariant-loop : tie.invariant-loop
-invariant-loop before s sum₀ i₀ sum i = (i ≤ length s) × (withBytes sum (drop i s) ≡ withBytes before s)
+invariant-loop before s sum₀ i₀ sum i = (i ≤ length s) × (with_bytes sum (drop i s) ≡ with_bytes before s)
 
 abbrev decreases-loop : tie.decreases-loop
 decreases-loop before s sum₀ i₀ sum i = length s - i

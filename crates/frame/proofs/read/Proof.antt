@@ -6,7 +6,7 @@ use mathlib.Core.Path.{sym, ap, ◌∙◌}
 use borrow.Author.Tests.{not-true, not-false}
 use Rattle.frame.proofs.Outs.{not-a-frame}
 use Rattle.frame.proofs.Reading.{two-kinds}
-use Rattle.rules.specs.Fields.{table, tagsOf, fits}
+use Rattle.rules.specs.Fields.{table, tags_of, fits}
 use Rattle.frame.proofs.read.Statement.{statement}
 use Rattle.frame.proofs.read.Tie as tie
 
@@ -41,14 +41,14 @@ read-data-requires : tie.Need-read-data-requires
 read-data-requires c κs =
     let l = c.before.before.before.before.before.before.before.before.args.s.now in
     let fit = sym c.before.before.before.before.well-formed-2.ensures ∙ not-false _ c.before.before.before.if2.false in
-    (ap (λ k. fits table (tagsOf table k) l) (sym c.if4.true) ∙ fit, c.before.if3.false, c.if4.true)
+    (ap (λ k. fits table (tags_of table k) l) (sym c.if4.true) ∙ fit, c.before.if3.false, c.if4.true)
 
 read-request-requires : tie.Need-read-request-requires
 read-request-requires c κs =
     let l = c.before.before.before.before.before.before.before.before.args.s.now in
     let fit = sym c.before.before.before.before.well-formed-2.ensures ∙ not-false _ c.before.before.before.if2.false in
     let two = two-kinds l _ c.before.before.before.before.before.before.if1.false fit c.if4.false in
-    (ap (λ k. fits table (tagsOf table k) l) (sym two) ∙ fit, c.before.if3.false, two)
+    (ap (λ k. fits table (tags_of table k) l) (sym two) ∙ fit, c.before.if3.false, two)
 
 returns-4 : tie.Need-returns-4
 returns-4 c = search rules

@@ -3,7 +3,7 @@ use Rattle.std.proofs.Common.{◌≡◌, sym, ap, ◌∙◌, arith, length-take-
 use mathlib.Core.Option.{some}
 use Rattle.rules.specs.Message.{message}
 use Rattle.frame.specs.Frame.{frame_of}
-use Rattle.framebench.specs.Rounds.{messageOf, sum_of}
+use Rattle.framebench.specs.Rounds.{message_of, sum_of}
 use Rattle.framebench.proofs.Messages.{text-length, comes_back, sum_fits}
 use Rattle.framebench.proofs.back.Statement.{statement}
 use Rattle.framebench.proofs.back.Tie as tie
@@ -56,7 +56,7 @@ slice-aggregate-read c = sym (length-take-le _ _ (omega (arith, c.before.out2.gi
 read-requires : tie.Need-read-requires
 read-requires c κs = search rules
 
-reads-back : (c : tie.After-read) → c.read.result ≡ frame_of (some (message (messageOf c.before.before.before.before.before.before.before.args.i)))
+reads-back : (c : tie.After-read) → c.read.result ≡ frame_of (some (message (message_of c.before.before.before.before.before.before.before.args.i)))
 reads-back c =
     let b = c.before.before.before in
     comes_back _ _ (omega arith) _ _ (omega (arith, b.before.before.before.before.ranges.i)) b.write-data.ensures _ c.read.ensures

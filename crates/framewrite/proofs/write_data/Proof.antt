@@ -7,9 +7,9 @@ use mathlib.Core.Path.{◌≡◌, sym, ap, ◌∙◌}
 use lib.ListN.{length, take}
 use lib.Seq.{sets, length-take-le}
 use borrow.Author.Tests.{not-true, not-false}
-use Rattle.frame.specs.Table.{lengthFits}
+use Rattle.frame.specs.Table.{length_fits}
 use Rattle.framewrite.proofs.Answers.{text-within, data-5, data-13, data-16, data-0, data-fields, data-room}
-use Rattle.framewrite.specs.Writing.{messageOf}
+use Rattle.framewrite.specs.Writing.{message_of}
 use Rattle.rules.proofs.MapsLaws.{between-high}
 use Rattle.rules.specs.Maps.{between}
 use Rattle.framewrite.proofs.write_data.Statement.{statement}
@@ -26,7 +26,7 @@ count c =
     let a = c.before.before.before.before.before.args in
     length-take-le a.n a.ack.now (omega (arith, few c, c.before.before.all.given.0))
 
-fitting : (c : tie.Else2) → lengthFits 10 (length c.before.before.before.before.before.before.before.args.text.now) ≡ true
+fitting : (c : tie.Else2) → length_fits 10 (length c.before.before.before.before.before.before.before.args.text.now) ≡ true
 fitting c = sym c.before.length-fits.ensures ∙ not-false _ c.if2.false
 
 short : (c : tie.Else2) → length c.before.before.before.before.before.before.before.args.text.now ≤ 48
@@ -56,7 +56,7 @@ add-if3-2 c = omega (arith, few c.before.before, short c)
 returns-3 : tie.Need-returns-3
 returns-3 c =
     let a = c.before.before.before.before.before.before.before.before.args in
-    let m = messageOf a.cid a.src a.seq (take a.n a.ack.now) a.buf a.text.now in
+    let m = message_of a.cid a.src a.seq (take a.n a.ack.now) a.buf a.text.now in
     data-16 a.n m a.out.now (counted c.before.before.before) (fitting c.before) (omega arith)
 
 slice-aggregate-put-fields : tie.Need-slice-aggregate-put-fields
@@ -66,7 +66,7 @@ put-fields-requires : tie.Need-put-fields-requires
 put-fields-requires c κs =
     let a = c.before.before.before.before.before.before.before.before.before.before.args in
     let f = c.before.before.before.before.before.before.before.before.before.before.ranges in
-    let m = messageOf a.cid a.src a.seq (take a.n a.ack.now) a.buf a.text.now in
+    let m = message_of a.cid a.src a.seq (take a.n a.ack.now) a.buf a.text.now in
     data-room a.n (counted c.before.before.before.before.before) a.out.now m (count c.before.before.before.before.before) (omega (arith, f.cid)) (omega (arith, f.src)) (omega (arith, f.seq)) (omega (arith, f.buf))
     (short c.before.before.before) (omega arith)
 
@@ -76,7 +76,7 @@ same_length c = search rules
 returns-4 : tie.Need-returns-4
 returns-4 c =
     let a = c.before.before.before.before.before.before.before.before.before.before.before.before.before.args in
-    let m = messageOf a.cid a.src a.seq (take a.n a.ack.now) a.buf a.text.now in
+    let m = message_of a.cid a.src a.seq (take a.n a.ack.now) a.buf a.text.now in
     data-0 a.n m a.out.now (counted c.before.before.before.before.before.before.before.before) (fitting c.before.before.before.before.before.before) (count c.before.before.before.before.before.before.before.before) c.before.before.before.before.before.if3.false _
     (c.before.before.put-fields.ensures ∙ ap (sets a.out.now 0) (data-fields m))
 

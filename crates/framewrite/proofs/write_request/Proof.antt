@@ -8,7 +8,7 @@ use lib.ListN.{length, take}
 use lib.Seq.{sets, length-take-le}
 use borrow.Author.Tests.{not-true, not-false}
 use Rattle.framewrite.proofs.Answers.{request-5, request-16, request-0, request-fields, request-room}
-use Rattle.framewrite.specs.Writing.{requestOf}
+use Rattle.framewrite.specs.Writing.{request_of}
 use Rattle.rules.proofs.MapsLaws.{between-high}
 use Rattle.rules.specs.Maps.{between}
 use Rattle.framewrite.proofs.write_request.Statement.{statement}
@@ -50,7 +50,7 @@ put-fields-requires : tie.Need-put-fields-requires
 put-fields-requires c κs =
     let a = c.before.before.before.before.before.before.before.before.args in
     let f = c.before.before.before.before.before.before.before.before.ranges in
-    request-room a.n (counted c.before.before.before.before) a.out.now (requestOf a.cid a.src (take a.n a.ack.now) a.lsrc a.lseq) (count c.before.before.before.before) (omega (arith, f.cid)) (omega (arith, f.src)) (omega (arith, f.lsrc)) (omega (arith, f.lseq))
+    request-room a.n (counted c.before.before.before.before) a.out.now (request_of a.cid a.src (take a.n a.ack.now) a.lsrc a.lseq) (count c.before.before.before.before) (omega (arith, f.cid)) (omega (arith, f.src)) (omega (arith, f.lsrc)) (omega (arith, f.lseq))
     c.before.before.before.if2.false
 
 same_length : tie.Need-same-length
@@ -59,7 +59,7 @@ same_length c = search rules
 returns-3 : tie.Need-returns-3
 returns-3 c =
     let a = c.before.before.before.before.before.before.before.before.before.before.before.args in
-    let r = requestOf a.cid a.src (take a.n a.ack.now) a.lsrc a.lseq in
+    let r = request_of a.cid a.src (take a.n a.ack.now) a.lsrc a.lseq in
     request-0 a.n r a.out.now (counted c.before.before.before.before.before.before.before) (count c.before.before.before.before.before.before.before) c.before.before.before.before.before.before.if2.false _
     (c.before.before.put-fields.ensures ∙ ap (sets a.out.now 0) (request-fields r))
 

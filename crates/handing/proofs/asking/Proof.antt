@@ -6,12 +6,12 @@ use Prim.Native.Nat.{◌<◌}
 use native.Mathlib.Omega.{arith}
 use borrow.Author.Tests.{not-true, not-false}
 use Rattle.rules.specs.Maps.{between, at}
-use Rattle.state.specs.Soundness.{soundOf}
+use Rattle.state.specs.Soundness.{sound_of}
 use Rattle.handing.proofs.Answers.{asking-1, asking-nobody, asking-oneself, asking-18, asking-16, asking-0}
 use Rattle.handing.proofs.asking.Statement.{statement}
 use Rattle.handing.proofs.asking.Tie as tie
 
-is-sound : (c : tie.Else1) → let a = c.before.before.before.before.args in soundOf a.t1 a.acks.now ≡ true
+is-sound : (c : tie.Else1) → let a = c.before.before.before.before.args in sound_of a.t1 a.acks.now ≡ true
 is-sound c = sym c.before.sound.ensures ∙ not-false _ c.if1.false
 
 known : (c : tie.Else2) → let a = c.before.before.before.before.before.before.args in between 1 a.t1.n a.k ≡ true

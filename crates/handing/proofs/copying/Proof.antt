@@ -4,12 +4,12 @@ use mathlib.Core.Bool.{true}
 use mathlib.Core.Path.{◌≡◌, sym, ◌∙◌}
 use native.Mathlib.Omega.{arith}
 use borrow.Author.Tests.{not-true, not-false}
-use Rattle.state.specs.Soundness.{soundOf}
+use Rattle.state.specs.Soundness.{sound_of}
 use Rattle.handing.proofs.Answers.{copying-1, copying-before, copying-after, copying-16, copying-0}
 use Rattle.handing.proofs.copying.Statement.{statement}
 use Rattle.handing.proofs.copying.Tie as tie
 
-is-sound : (c : tie.Else1) → let a = c.before.before.before.before.before.args in soundOf a.t1 a.acks.now ≡ true
+is-sound : (c : tie.Else1) → let a = c.before.before.before.before.before.args in sound_of a.t1 a.acks.now ≡ true
 is-sound c = sym c.before.sound.ensures ∙ not-false _ c.if1.false
 
 sound-requires : tie.Need-sound-requires

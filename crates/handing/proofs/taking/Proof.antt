@@ -3,12 +3,12 @@ use borrow.Author.Rules.{rules}
 use mathlib.Core.Bool.{true}
 use mathlib.Core.Path.{◌≡◌, sym, ◌∙◌}
 use borrow.Author.Tests.{not-true, not-false}
-use Rattle.state.specs.Soundness.{soundOf}
+use Rattle.state.specs.Soundness.{sound_of}
 use Rattle.handing.proofs.Answers.{taking-1, taking-18, taking-16, taking-0}
 use Rattle.handing.proofs.taking.Statement.{statement}
 use Rattle.handing.proofs.taking.Tie as tie
 
-is-sound : (c : tie.Else1) → let a = c.before.before.before.before.before.args in soundOf a.t1 a.acks.now ≡ true
+is-sound : (c : tie.Else1) → let a = c.before.before.before.before.before.args in sound_of a.t1 a.acks.now ≡ true
 is-sound c = sym c.before.sound.ensures ∙ not-false _ c.if1.false
 
 sound-requires : tie.Need-sound-requires

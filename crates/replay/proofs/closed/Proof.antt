@@ -3,9 +3,9 @@ use borrow.Author.Rules.{rules}
 use mathlib.Core.Path.{◌≡◌, ap}
 use native.Mathlib.Omega.{arith}
 use lib.ListN.{replicate}
-use Rattle.rules.specs.Calls.{openChecks}
+use Rattle.rules.specs.Calls.{open_checks}
 use Rattle.rules.specs.Maps.{between}
-use Rattle.rules.specs.Sound.{rangesFit}
+use Rattle.rules.specs.Sound.{ranges_fit}
 use Rattle.state.specs.Opening as state
 use Rattle.unit.specs.declared.Unit.{Unit}
 use Rattle.unit.specs.declared.Opened.{Opened}
@@ -17,7 +17,7 @@ open-requires : tie.Need-open-requires
 open-requires c κs = search rules
 
 returns : tie.Need-returns
-unfolding opened_of state.opened_of openChecks rangesFit between
+unfolding opened_of state.opened_of open_checks ranges_fit between
 returns c =
     let o = c.before.«open» in
     let refused : o.result.answer ≡ 2 = ap (λ (x : Opened). x.answer) o.ensures.exact in

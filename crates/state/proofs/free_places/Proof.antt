@@ -3,7 +3,7 @@ use borrow.Author.Rules.{rules}
 use Prim.Native.Nat.{◌*◌}
 use native.Mathlib.Nat.{mul-le-mul}
 use native.Mathlib.Omega.{arith}
-use Rattle.state.specs.View.{freePlaces}
+use Rattle.state.specs.View.{free_places}
 use Rattle.state.proofs.free_places.Statement.{statement}
 use Rattle.state.proofs.free_places.Tie as tie
 
@@ -31,7 +31,7 @@ above-requires : tie.Need-above-requires
 above-requires c κs = search rules
 
 returns : tie.Need-returns
-unfolding freePlaces
+unfolding free_places
 returns c = rw (← c.before.taken.ensures) c.above.ensures
 
 pub free-places-spec : {M : Type 1} → statement M

@@ -1,6 +1,6 @@
 -- `own_low` meets its contract.
 use borrow.Author.Rules.{rules}
-use Rattle.state.specs.Soundness.{lowIn}
+use Rattle.state.specs.Soundness.{low_in}
 use Rattle.state.proofs.own_low.Statement.{statement}
 use Rattle.state.proofs.own_low.Tie as tie
 
@@ -11,7 +11,7 @@ least-of-requires : tie.Need-least-of-requires
 least-of-requires c κs = search rules
 
 returns : tie.Need-returns
-unfolding lowIn
+unfolding low_in
 returns c = rw (← c.before.row.ensures) c.least-of.ensures
 
 pub own-low-spec : {M : Type 1} → statement M

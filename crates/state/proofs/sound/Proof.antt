@@ -2,8 +2,8 @@
 use mathlib.Core.Path.{sym, ◌∙◌}
 use borrow.Author.Rules.{rules}
 use borrow.Author.Tests.{eq-eqb, ne_eqb, not-true, not-false}
-use Rattle.rules.proofs.SoundLaws.{rangesFit-facts}
-use Rattle.state.specs.Soundness.{soundOf}
+use Rattle.rules.proofs.SoundLaws.{ranges_fit-facts}
+use Rattle.state.specs.Soundness.{sound_of}
 use Rattle.state.proofs.sound.Statement.{statement}
 use Rattle.state.proofs.sound.Tie as tie
 
@@ -11,14 +11,14 @@ ranges-fit-requires : tie.Need-ranges-fit-requires
 ranges-fit-requires c κs = search rules
 
 returns : tie.Need-returns
-unfolding soundOf
+unfolding sound_of
 returns c = rw (← c.before.ranges-fit.ensures, not-true c.before.ranges-fit.result c.if1.true)
 
 nexts-fit-requires : tie.Need-nexts-fit-requires
 nexts-fit-requires c κs = search rules
 
 returns-2 : tie.Need-returns-2
-unfolding soundOf
+unfolding sound_of
 returns-2 c =
     let nexts = c.before in
     let ranges = nexts.before.before.before.before.before.before.before.before.before.before.before in
@@ -28,7 +28,7 @@ at-requires : tie.Need-at-requires
 at-requires c κs = search rules
 
 returns-3 : tie.Need-returns-3
-unfolding soundOf
+unfolding sound_of
 returns-3 c =
     let own = c.before in
     let nexts = own.before.before.before.before.before in
@@ -42,7 +42,7 @@ window-fits-requires : tie.Need-window-fits-requires
 window-fits-requires c κs = search rules
 
 returns-4 : tie.Need-returns-4
-unfolding soundOf
+unfolding sound_of
 returns-4 c =
     let window = c.before in
     let own = window.before.before.before.before.before.before.before in
@@ -53,10 +53,10 @@ returns-4 c =
 places-fit-requires : tie.Need-places-fit-requires
 places-fit-requires c κs =
     let nexts = c.before.before.before.before.before.before.before.before.before.before.before.before.before.before.before.before.before.before.before in
-    (rangesFit-facts _ _ _ (sym nexts.before.before.before.before.before.before.before.before.before.before.before.ranges-fit.ensures ∙ not-false _ nexts.before.before.before.before.before.before.before.before.before.before.if1.false)).n-high
+    (ranges_fit-facts _ _ _ (sym nexts.before.before.before.before.before.before.before.before.before.before.before.ranges-fit.ensures ∙ not-false _ nexts.before.before.before.before.before.before.before.before.before.before.if1.false)).n-high
 
 returns-5 : tie.Need-returns-5
-unfolding soundOf
+unfolding sound_of
 returns-5 c =
     let window = c.before.before.before.before.before.before.before.before in
     let own = window.before.before.before.before.before.before.before in

@@ -9,7 +9,7 @@ use lib.Dec.{eqb, leb}
 use borrow.Author.Rules.{rules}
 use borrow.Author.Tests.{eq-eqb, ne_eqb, le-leb, lt-leb}
 use Rattle.rules.specs.Maps.{at, every}
-use Rattle.tables.specs.Rows.{belowBut}
+use Rattle.tables.specs.Rows.{below_but}
 use Rattle.tables.proofs.EveryLaws.{every_more, every-stop, every-end}
 use Rattle.tables.proofs.RowLaws.{at_next}
 use Rattle.tables.proofs.below_but.Statement.{statement}
@@ -19,13 +19,13 @@ abbrev kept : ℕ → List ℕ → List ℕ → ℕ → Bool
 kept j a limits i = cond (eqb i j) true (leb (at a i) (at limits i))
 
 abbrev invariant-loop : tie.invariant-loop
-invariant-loop a limits n j k₀ k = (k ≤ n) × (every (k + 1) (n - k) (kept j a limits) ≡ belowBut n j (at a) (at limits))
+invariant-loop a limits n j k₀ k = (k ≤ n) × (every (k + 1) (n - k) (kept j a limits) ≡ below_but n j (at a) (at limits))
 
 abbrev decreases-loop : tie.decreases-loop
 decreases-loop a limits n j k₀ k = n - k
 
 loop-holds : tie.Need-loop-init invariant-loop decreases-loop
-unfolding belowBut
+unfolding below_but
 loop-holds c =
     let s = c.before.before.args in
     (search rules, ap (λ (m : ℕ). every 1 m (kept s.j s.a.now s.limits.now)) (sub-zero s.n))

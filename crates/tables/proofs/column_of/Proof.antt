@@ -6,7 +6,7 @@ use native.Mathlib.Omega.{arith}
 use lib.ListN.{length, drop}
 use borrow.Author.Rules.{rules}
 use Rattle.rules.specs.Maps.{at}
-use Rattle.tables.specs.Rows.{columnOf}
+use Rattle.tables.specs.Rows.{column_of}
 use Rattle.tables.proofs.FillLaws.{filled, filled-set, filled-end}
 use Rattle.tables.proofs.column_of.Statement.{statement}
 use Rattle.tables.proofs.column_of.Tie as tie
@@ -54,7 +54,7 @@ loop-again c =
     )
 
 returns : tie.Need-returns invariant-loop decreases-loop
-unfolding columnOf
+unfolding column_of
 returns c =
     let q = c.before in
     let s = q.before.before.args in

@@ -9,7 +9,7 @@ use lib.Dec.{ltb}
 use borrow.Author.Rules.{rules}
 use borrow.Author.Tests.{lt-ltb, le-ltb}
 use Rattle.rules.specs.Maps.{at, every}
-use Rattle.tables.specs.Rows.{noneZero}
+use Rattle.tables.specs.Rows.{none_zero}
 use Rattle.tables.proofs.EveryLaws.{every_more, every-stop, every-end}
 use Rattle.tables.proofs.RowLaws.{at_next}
 use Rattle.tables.proofs.none_zero.Statement.{statement}
@@ -19,13 +19,13 @@ abbrev positive : List ℕ → ℕ → Bool
 positive a k = ltb 0 (at a k)
 
 abbrev invariant-loop : tie.invariant-loop
-invariant-loop a n k₀ k = (k ≤ n) × (every (k + 1) (n - k) (positive a) ≡ noneZero n (at a))
+invariant-loop a n k₀ k = (k ≤ n) × (every (k + 1) (n - k) (positive a) ≡ none_zero n (at a))
 
 abbrev decreases-loop : tie.decreases-loop
 decreases-loop a n k₀ k = n - k
 
 loop-holds : tie.Need-loop-init invariant-loop decreases-loop
-unfolding noneZero
+unfolding none_zero
 loop-holds c = (search rules, ap (λ (m : ℕ). every 1 m (positive c.before.args.a.now)) (sub-zero c.before.args.n))
 
 cast-get : tie.Need-overflow-cast-get invariant-loop decreases-loop

@@ -7,13 +7,13 @@ use native.Mathlib.Nat.{sub-zero}
 use borrow.Author.Rules.{rules}
 use borrow.Author.Tests.{not-true, not-false}
 use Rattle.rules.specs.Maps.{at, every}
-use Rattle.tables.specs.Rows.{row_of, noneZero}
+use Rattle.tables.specs.Rows.{row_of, none_zero}
 use Rattle.tables.proofs.EveryLaws.{every_more, every-stop, every-end}
 use Rattle.tables.proofs.table_none_zero.Statement.{statement}
 use Rattle.tables.proofs.table_none_zero.Tie as tie
 
 abbrev full : ℕ → List ℕ → ℕ → Bool
-full n t k = noneZero n (at (row_of t k))
+full n t k = none_zero n (at (row_of t k))
 
 abbrev invariant-loop : tie.invariant-loop
 invariant-loop t n k₀ k = (k ≤ n) × (every (k + 1) (n - k) (full n t) ≡ every 1 n (full n t))
@@ -39,7 +39,7 @@ returns : tie.Need-returns invariant-loop decreases-loop
 returns c =
     let q = c.before.before.before.before in
     let s = q.before.before.args in
-    let e = sym (c.before.none-zero.ensures ∙ ap (λ (l : List ℕ). noneZero s.n (at l)) c.before.before.row.ensures) in
+    let e = sym (c.before.none-zero.ensures ∙ ap (λ (l : List ℕ). none_zero s.n (at l)) c.before.before.row.ensures) in
     every-stop (full s.n s.t.now) s.n q.loop.k c.before.before.before.loop-test.true (e ∙ not-true _ c.if1.true) q.loop.invariant.1
 
 loop-less : tie.Need-loop-smaller invariant-loop decreases-loop
@@ -49,7 +49,7 @@ loop-again : tie.Need-loop-preserved invariant-loop decreases-loop
 loop-again c =
     let q = c.before.before.before.before in
     let s = q.before.before.args in
-    let e = sym (c.before.none-zero.ensures ∙ ap (λ (l : List ℕ). noneZero s.n (at l)) c.before.before.row.ensures) in
+    let e = sym (c.before.none-zero.ensures ∙ ap (λ (l : List ℕ). none_zero s.n (at l)) c.before.before.row.ensures) in
     (search rules, every_more (full s.n s.t.now) s.n q.loop.k c.before.before.before.loop-test.true (e ∙ not-false _ c.if1.false) q.loop.invariant.1)
 
 returns-2 : tie.Need-returns-2 invariant-loop decreases-loop

@@ -9,7 +9,7 @@ use lib.Dec.{eqb}
 use lib.ListN.{length, get_or}
 use borrow.Author.Rules.{rules}
 use borrow.Author.Tests.{eq-eqb, ne_eqb}
-use Rattle.tables.specs.Rows.{withColumn}
+use Rattle.tables.specs.Rows.{with_column}
 use Rattle.tables.proofs.FillLaws.{filled, filled-set, filled-skip, filled-end}
 use Rattle.tables.proofs.with_column.Statement.{statement}
 use Rattle.tables.proofs.with_column.Tie as tie
@@ -58,7 +58,7 @@ loop-again c =
     )
 
 returns : tie.Need-returns invariant-loop decreases-loop
-unfolding withColumn
+unfolding with_column
 returns c =
     let q = c.before in
     let s = q.before.before.args in

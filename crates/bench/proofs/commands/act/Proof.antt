@@ -3,13 +3,13 @@ use mathlib.Core.Path.{◌≡◌, sym, ◌∙◌}
 use mathlib.Core.Bool.{true}
 use borrow.Author.Tests.{not-true, not-false}
 use borrow.Author.Rules.{rules}
-use Rattle.bench.specs.Commands.{namesKnown}
+use Rattle.bench.specs.Commands.{names_known}
 use Rattle.bench.proofs.NamesLaws.{names-none, groups_none, ignored-acts, unit-named, can-hear}
 use Rattle.bench.proofs.commands.act.Statement.{statement}
 use Rattle.bench.proofs.commands.act.Tie as tie
 
 -- what the line names exists
-all_named : (c : tie.Else1) → let start = c.before.before.before.before in namesKnown start.args.d.n start.args.d.count start.args.shown ≡ true
+all_named : (c : tie.Else1) → let start = c.before.before.before.before in names_known start.args.d.n start.args.d.count start.args.shown ≡ true
 all_named c = sym c.before.names.ensures ∙ not-false _ c.if1.false
 
 names-requires : tie.Need-names-requires
@@ -33,7 +33,7 @@ last-requires : tie.Need-last-requires
 last-requires c κs = search rules
 
 send-requires : tie.Need-send-requires
-unfolding namesKnown
+unfolding names_known
 send-requires c κs =
     let start = c.before.before.before.before.before.before.before.before.before in
     let A = start.requires.0 in
@@ -43,7 +43,7 @@ enum-known-shown-2 : tie.Need-enum-known-shown-2
 enum-known-shown-2 c = search rules
 
 arrive-requires : tie.Need-arrive-requires
-unfolding namesKnown
+unfolding names_known
 arrive-requires c κs =
     let start = c.before.before.before.before.before.before.before.before in
     (can-hear start.args.d start.requires.0.fits _ _ (rw c.before.before.shown2.given.1 at (all_named c.before.before.before.before)), start.requires.1)
@@ -52,7 +52,7 @@ enum-known-shown-3 : tie.Need-enum-known-shown-3
 enum-known-shown-3 c = search rules
 
 request-requires : tie.Need-request-requires
-unfolding namesKnown
+unfolding names_known
 request-requires c κs =
     let start = c.before.before.before.before.before.before.before.before in
     let A = start.requires.0 in
@@ -62,7 +62,7 @@ enum-known-shown-4 : tie.Need-enum-known-shown-4
 enum-known-shown-4 c = search rules
 
 take-requires : tie.Need-take-requires
-unfolding namesKnown
+unfolding names_known
 take-requires c κs =
     let start = c.before.before.before.before.before.before.before.before in
     (unit-named start.args.d start.requires.0.fits _ (rw c.before.before.shown4.given.1 at (all_named c.before.before.before.before)), start.requires.1)

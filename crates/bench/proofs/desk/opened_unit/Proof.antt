@@ -2,7 +2,7 @@
 use mathlib.Core.Path.{ap}
 use borrow.Author.Rules.{rules}
 use Rattle.unit.specs.declared.Opened.{Opened}
-use Rattle.bench.specs.Desk.{startedUnit}
+use Rattle.bench.specs.Desk.{started_unit}
 use Rattle.bench.proofs.desk.opened_unit.Statement.{statement}
 use Rattle.bench.proofs.desk.opened_unit.Tie as tie
 
@@ -10,7 +10,7 @@ open-requires : tie.Need-open-requires
 open-requires c κs = search rules
 
 returns : tie.Need-returns
-unfolding startedUnit
+unfolding started_unit
 returns c = ap (λ (o : Opened). o.unit) c.before.«open».ensures.exact
 
 pub opened-unit-spec : {M : Type 1} → statement M

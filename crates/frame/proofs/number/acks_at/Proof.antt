@@ -6,12 +6,12 @@ use mathlib.Core.Path.{◌≡◌, refl, ap, ◌∙◌}
 use lib.ListN.{drop, set}
 use Rattle.frame.proofs.Numbers.{acks-more}
 use Rattle.frame.specs.Acks.{eight}
-use Rattle.rules.specs.Bytes.{allNumbers}
+use Rattle.rules.specs.Bytes.{all_numbers}
 use Rattle.frame.proofs.number.acks_at.Statement.{statement}
 use Rattle.frame.proofs.number.acks_at.Tie as tie
 
 abbrev invariant-loop : tie.invariant-loop
-invariant-loop s at n ack₀ i₀ ack i = (i ≤ n) × (ack ≡ eight (allNumbers 4 i (drop at s)))
+invariant-loop s at n ack₀ i₀ ack i = (i ≤ n) × (ack ≡ eight (all_numbers 4 i (drop at s)))
 
 abbrev decreases-loop : tie.decreases-loop
 decreases-loop s at n ack₀ i₀ ack i = n - i
@@ -52,7 +52,7 @@ returns : tie.Need-returns invariant-loop decreases-loop
 returns c =
     let a = c.before.before.before.args in
     let e : c.before.loop.i ≡ a.n = omega arith in
-    c.before.loop.invariant.1 ∙ ap (λ k. eight (allNumbers 4 k (drop a.at a.s.now))) e
+    c.before.loop.invariant.1 ∙ ap (λ k. eight (all_numbers 4 k (drop a.at a.s.now))) e
 
 pub acks-at-spec : {M : Type 1} → statement M
 acks-at-spec =

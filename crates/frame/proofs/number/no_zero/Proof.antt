@@ -5,12 +5,12 @@ use Prim.Native.Nat.{◌-◌, ◌≤◌}
 use mathlib.Core.Path.{◌≡◌, refl, sym, ◌∙◌}
 use lib.ListN.{drop, length}
 use Rattle.frame.proofs.Numbers.{zero-here, no-zero-here, no-zero-left}
-use Rattle.rules.specs.Message.{noZero}
+use Rattle.rules.specs.Message.{no_zero}
 use Rattle.frame.proofs.number.no_zero.Statement.{statement}
 use Rattle.frame.proofs.number.no_zero.Tie as tie
 
 abbrev invariant-loop : tie.invariant-loop
-invariant-loop a i₀ i = (i ≤ length a) × (noZero (drop i a) ≡ noZero a)
+invariant-loop a i₀ i = (i ≤ length a) × (no_zero (drop i a) ≡ no_zero a)
 
 abbrev decreases-loop : tie.decreases-loop
 decreases-loop a i₀ i = length a - i

@@ -2,7 +2,7 @@
 use borrow.Author.Rules.{rules}
 use mathlib.Core.Path.{sym, ap, subst, ◌∙◌, ◌≡◌}
 use mathlib.Core.List.{[], ◌∷◌}
-use Rattle.framewrite.specs.Fields.{contentOf}
+use Rattle.framewrite.specs.Fields.{content_of}
 use Rattle.framewrite.proofs.Rest.{content-ack, content-text, content-one}
 use Rattle.framewrite.specs.Field.{FieldRoom, FieldWritten}
 use Rattle.framewrite.proofs.fields.put_tag.Statement.{statement}
@@ -10,7 +10,7 @@ use Rattle.framewrite.proofs.fields.put_tag.Tie as tie
 
 alone : (c : tie.After-number-of)
     → let a = c.before.before.before.before.before.before.args in
-    contentOf a.m a.ack.now a.text.now a.tag ≡ c.number_of_lem.result ∷ []
+    content_of a.m a.ack.now a.text.now a.tag ≡ c.number_of_lem.result ∷ []
 alone c = content-one _ _ _ _ c.before.before.if1.false c.before.if2.false ∙ ap (λ x. x ∷ []) (sym c.number_of_lem.ensures)
 
 put-field-requires : tie.Need-put-field-requires

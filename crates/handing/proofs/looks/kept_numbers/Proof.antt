@@ -1,8 +1,8 @@
--- The numbers from minAL of the own index up to SEQ are shown.
+-- The numbers from min_al of the own index up to SEQ are shown.
 use borrow.Author.Rules.{rules}
 use mathlib.Core.Path.{refl}
 use native.Mathlib.Omega.{arith}
-use Rattle.handing.specs.Looks.{wholeChecks, keptNumbersIn}
+use Rattle.handing.specs.Looks.{whole_checks, kept_numbers_in}
 use Rattle.handing.proofs.ShownLaws.{look-shown}
 use Rattle.handing.proofs.looks.kept_numbers.Statement.{statement}
 use Rattle.handing.proofs.looks.kept_numbers.Tie as tie
@@ -23,11 +23,11 @@ shown-requires : tie.Need-shown-requires
 shown-requires c κs = search rules
 
 returns : tie.Need-returns
-unfolding keptNumbersIn
+unfolding kept_numbers_in
 returns c =
     let low = c.before.before.before in
     let a = low.before.before.before.before.before.args in
-    look-shown (wholeChecks a.t1 a.acks.now) refl _ _ _ _ _ c.before.before.whole.ensures low.own-low.ensures (omega arith) c.shown.ensures
+    look-shown (whole_checks a.t1 a.acks.now) refl _ _ _ _ _ c.before.before.whole.ensures low.own-low.ensures (omega arith) c.shown.ensures
 
 pub kept-numbers-spec : {M : Type 1} → statement M
 kept-numbers-spec =

@@ -2,7 +2,7 @@
 use borrow.Author.Rules.{rules}
 use mathlib.Core.Path.{refl}
 use native.Mathlib.Omega.{arith}
-use Rattle.handing.specs.Looks.{unitChecks, missingIn}
+use Rattle.handing.specs.Looks.{unit_checks, missing_in}
 use Rattle.handing.proofs.ShownLaws.{look-shown}
 use Rattle.handing.proofs.looks.missing_of.Statement.{statement}
 use Rattle.handing.proofs.looks.missing_of.Tie as tie
@@ -26,10 +26,10 @@ shown-requires : tie.Need-shown-requires
 shown-requires c κs = search rules
 
 returns : tie.Need-returns
-unfolding missingIn
+unfolding missing_in
 returns c =
     let a = c.before.before.before.before.before.before.before.before.before.before.before.before.args in
-    look-shown (unitChecks a.t1 a.acks.now a.k) refl _ _ _ _ _ c.before.before.of-unit.ensures c.before.before.before.before.before.before.before.at.ensures (omega arith) c.shown.ensures
+    look-shown (unit_checks a.t1 a.acks.now a.k) refl _ _ _ _ _ c.before.before.of-unit.ensures c.before.before.before.before.before.before.before.at.ensures (omega arith) c.shown.ensures
 
 pub missing-of-spec : {M : Type 1} → statement M
 missing-of-spec =

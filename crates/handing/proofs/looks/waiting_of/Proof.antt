@@ -1,7 +1,7 @@
 -- The order's count is shown.
 use borrow.Author.Rules.{rules}
 use mathlib.Core.Path.{refl}
-use Rattle.handing.specs.Looks.{unitChecks, waitingIn}
+use Rattle.handing.specs.Looks.{unit_checks, waiting_in}
 use Rattle.handing.proofs.ShownLaws.{look-shown}
 use Rattle.handing.proofs.looks.waiting_of.Statement.{statement}
 use Rattle.handing.proofs.looks.waiting_of.Tie as tie
@@ -16,10 +16,10 @@ shown-requires : tie.Need-shown-requires
 shown-requires c κs = search rules
 
 returns : tie.Need-returns
-unfolding waitingIn
+unfolding waiting_in
 returns c =
     let a = c.before.before.before.before.before.args in
-    look-shown (unitChecks a.c a.acks.now a.k) refl _ _ _ _ _ c.before.before.of-unit.ensures refl c.before.waiting-of.ensures c.shown.ensures
+    look-shown (unit_checks a.c a.acks.now a.k) refl _ _ _ _ _ c.before.before.of-unit.ensures refl c.before.waiting-of.ensures c.shown.ensures
 
 pub waiting-of-spec : {M : Type 1} → statement M
 waiting-of-spec = tie.close (tie.spec of-unit-requires waiting-of-requires shown-requires returns)

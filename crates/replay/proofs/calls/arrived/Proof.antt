@@ -1,6 +1,6 @@
 -- `calls::arrived` meets its contract.
 use borrow.Author.Rules.{rules}
-use Rattle.replay.specs.Calls.{arriveMade}
+use Rattle.replay.specs.Calls.{arrive_made}
 use Rattle.replay.proofs.calls.arrived.Statement.{statement}
 use Rattle.replay.proofs.calls.arrived.Tie as tie
 
@@ -14,7 +14,7 @@ cast-t6 : tie.Need-overflow-cast-t6
 cast-t6 c = search rules
 
 returns : tie.Need-returns
-unfolding arriveMade
+unfolding arrive_made
 returns c = rw c.before.before.before.arrive.ensures.exact
 
 pub arrived-spec : {M : Type 1} → statement M

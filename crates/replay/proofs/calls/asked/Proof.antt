@@ -1,6 +1,6 @@
 -- `calls::asked` meets its contract.
 use borrow.Author.Rules.{rules}
-use Rattle.replay.specs.Calls.{askMade}
+use Rattle.replay.specs.Calls.{ask_made}
 use Rattle.replay.proofs.calls.asked.Statement.{statement}
 use Rattle.replay.proofs.calls.asked.Tie as tie
 
@@ -14,7 +14,7 @@ same_length : tie.Need-same-length
 same_length c = search rules
 
 returns : tie.Need-returns
-unfolding askMade
+unfolding ask_made
 returns c =
     let given = c.before.before.before.request.ensures in
     record { result = rw (c.handed.ensures, given.exact); output = given.bytes }

@@ -1,6 +1,6 @@
 -- `calls::copied` meets its contract.
 use borrow.Author.Rules.{rules}
-use Rattle.replay.specs.Calls.{copyMade}
+use Rattle.replay.specs.Calls.{copy_made}
 use Rattle.replay.proofs.calls.copied.Statement.{statement}
 use Rattle.replay.proofs.calls.copied.Tie as tie
 
@@ -14,7 +14,7 @@ same_length : tie.Need-same-length
 same_length c = search rules
 
 returns : tie.Need-returns
-unfolding copyMade
+unfolding copy_made
 returns c =
     let given = c.before.before.before.copy.ensures in
     record { result = rw (c.handed.ensures, given.exact); output = given.bytes }

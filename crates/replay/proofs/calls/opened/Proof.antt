@@ -1,6 +1,6 @@
 -- `calls::opened` meets its contract: each number stands at its place.
 use borrow.Author.Rules.{rules}
-use Rattle.replay.specs.Calls.{openMade}
+use Rattle.replay.specs.Calls.{open_made}
 use Rattle.replay.proofs.calls.opened.Statement.{statement}
 use Rattle.replay.proofs.calls.opened.Tie as tie
 
@@ -44,7 +44,7 @@ open-requires : tie.Need-open-requires
 open-requires c κs = search rules
 
 returns : tie.Need-returns
-unfolding openMade
+unfolding open_made
 returns c =
     let b = c.before.before.before.before.before in
     let m = b.before.before.before.before in

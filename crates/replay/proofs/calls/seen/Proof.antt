@@ -1,6 +1,6 @@
 -- `calls::seen` meets its contract: each look by its own arm.
 use borrow.Author.Rules.{rules}
-use Rattle.replay.specs.Calls.{seenMade}
+use Rattle.replay.specs.Calls.{seen_made}
 use Rattle.replay.proofs.CallLaws.{seen-rest}
 use Rattle.replay.proofs.calls.seen.Statement.{statement}
 use Rattle.replay.proofs.calls.seen.Tie as tie
@@ -39,31 +39,31 @@ is-sound-requires : tie.Need-is-sound-requires
 is-sound-requires c κs = search rules
 
 returns : tie.Need-returns
-unfolding seenMade
+unfolding seen_made
 returns c = rw (c.before.before.match.keys1, c.looked.ensures, c.before.to_take.ensures.exact)
 
 returns-2 : tie.Need-returns-2
-unfolding seenMade
+unfolding seen_made
 returns-2 c = rw (c.before.before.match.keys2, c.looked2.ensures, c.before.free-places.ensures.exact)
 
 returns-3 : tie.Need-returns-3
-unfolding seenMade
+unfolding seen_made
 returns-3 c = rw (c.before.before.match.keys3, c.looked3.ensures, c.before.kept-numbers.ensures.exact)
 
 returns-4 : tie.Need-returns-4
-unfolding seenMade
+unfolding seen_made
 returns-4 c = rw (c.before.before.match.keys4, c.looked4.ensures, c.before.missing-of.ensures.exact)
 
 returns-5 : tie.Need-returns-5
-unfolding seenMade
+unfolding seen_made
 returns-5 c = rw (c.before.before.match.keys5, c.looked5.ensures, c.before.waiting-of.ensures.exact)
 
 returns-6 : tie.Need-returns-6
-unfolding seenMade
+unfolding seen_made
 returns-6 c = rw (c.before.before.match.keys6, ← c.before.is-sound.ensures.exact, c.if1.true)
 
 returns-7 : tie.Need-returns-7
-unfolding seenMade
+unfolding seen_made
 returns-7 c = rw (c.before.before.match.keys6, ← c.before.is-sound.ensures.exact, c.if1.false)
 
 returns-8 : tie.Need-returns-8

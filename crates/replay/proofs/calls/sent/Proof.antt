@@ -1,6 +1,6 @@
 -- `calls::sent` meets its contract.
 use borrow.Author.Rules.{rules}
-use Rattle.replay.specs.Calls.{sendMade}
+use Rattle.replay.specs.Calls.{send_made}
 use Rattle.replay.proofs.calls.sent.Statement.{statement}
 use Rattle.replay.proofs.calls.sent.Tie as tie
 
@@ -14,7 +14,7 @@ same_length : tie.Need-same-length
 same_length c = search rules
 
 returns : tie.Need-returns
-unfolding sendMade
+unfolding send_made
 returns c = record { result = rw c.before.before.before.before.send.ensures.exact; output = c.before.before.before.before.send.ensures.bytes }
 
 pub sent-spec : {M : Type 1} → statement M

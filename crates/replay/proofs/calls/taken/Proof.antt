@@ -1,6 +1,6 @@
 -- `calls::taken` meets its contract.
 use borrow.Author.Rules.{rules}
-use Rattle.replay.specs.Calls.{takeMade}
+use Rattle.replay.specs.Calls.{take_made}
 use Rattle.replay.proofs.calls.taken.Statement.{statement}
 use Rattle.replay.proofs.calls.taken.Tie as tie
 
@@ -17,7 +17,7 @@ same_length : tie.Need-same-length
 same_length c = search rules
 
 returns : tie.Need-returns
-unfolding takeMade
+unfolding take_made
 returns c = record { result = rw c.before.before.before.before.before.take.ensures.exact; output = c.before.before.before.before.before.take.ensures.bytes }
 
 pub taken-spec : {M : Type 1} → statement M

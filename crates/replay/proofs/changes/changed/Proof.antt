@@ -1,6 +1,6 @@
 -- `changes::changed` meets its contract: one part after the other.
 use borrow.Author.Rules.{rules}
-use Rattle.replay.specs.Changes.{changedOf}
+use Rattle.replay.specs.Changes.{changed_of}
 use Rattle.replay.proofs.changes.changed.Statement.{statement}
 use Rattle.replay.proofs.changes.changed.Tie as tie
 
@@ -20,7 +20,7 @@ with-order-requires : tie.Need-with-order-requires
 with-order-requires c κs = search rules
 
 returns : tie.Need-returns
-unfolding changedOf
+unfolding changed_of
 returns c = rw (c.with-order.ensures, c.before.with-message.ensures, c.before.before.with-entry.ensures, c.before.before.before.with_number.ensures, c.before.before.before.before.before.before.with-ack.ensures)
 
 pub changed-spec : {M : Type 1} → statement M

@@ -1,12 +1,12 @@
 -- `changes::with_ack` meets its contract: ACK of the place that stands at the position.
 use borrow.Author.Rules.{rules}
 use borrow.Author.Tests.{eq-eqb, ne_eqb}
-use Rattle.replay.specs.Changes.{withAck}
+use Rattle.replay.specs.Changes.{with_ack}
 use Rattle.replay.proofs.changes.with_ack.Statement.{statement}
 use Rattle.replay.proofs.changes.with_ack.Tie as tie
 
 returns : tie.Need-returns
-unfolding withAck
+unfolding with_ack
 returns c = rw (ne_eqb _ _ c.if1.true)
 
 slice-aggregate-byte : tie.Need-slice-aggregate-byte
@@ -37,7 +37,7 @@ put-requires : tie.Need-put-requires
 put-requires c κs = search rules
 
 returns-2 : tie.Need-returns-2
-unfolding withAck
+unfolding with_ack
 returns-2 c = rw (eq-eqb _ _ c.before.before.before.before.before.before.if1.false, c.before.put.ensures, c.before.before.before2.ensures, c.before.before.before.before.byte.ensures)
 
 pub with-ack-spec : {M : Type 1} → statement M

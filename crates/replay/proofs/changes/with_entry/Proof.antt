@@ -1,6 +1,6 @@
 -- `changes::with_entry` meets its contract: each entry by its own arm.
 use borrow.Author.Rules.{rules}
-use Rattle.replay.specs.Changes.{withEntry}
+use Rattle.replay.specs.Changes.{with_entry}
 use Rattle.replay.proofs.ChangeLaws.{entry-rest}
 use Rattle.replay.proofs.changes.with_entry.Statement.{statement}
 use Rattle.replay.proofs.changes.with_entry.Tie as tie
@@ -39,19 +39,19 @@ put-requires : tie.Need-put-requires
 put-requires c κs = search rules
 
 returns : tie.Need-returns
-unfolding withEntry
+unfolding with_entry
 returns c = rw (c.before.before.match.keys1, c.with.ensures)
 
 returns-2 : tie.Need-returns-2
-unfolding withEntry
+unfolding with_entry
 returns-2 c = rw (c.before.before.match.keys2, c.with2.ensures)
 
 returns-3 : tie.Need-returns-3
-unfolding withEntry
+unfolding with_entry
 returns-3 c = rw (c.before.before.match.keys3, c.with3.ensures)
 
 returns-4 : tie.Need-returns-4
-unfolding withEntry
+unfolding with_entry
 returns-4 c = rw (c.before.before.before.before.before.before.match.keys4, c.before.put.ensures, c.before.before.before.before.before2.ensures, c.before.before.before3.ensures)
 
 returns-5 : tie.Need-returns-5

@@ -1,6 +1,6 @@
 -- `changes::with_message` meets its contract: each number of the message by its own arm.
 use borrow.Author.Rules.{rules}
-use Rattle.replay.specs.Changes.{withMessage}
+use Rattle.replay.specs.Changes.{with_message}
 use Rattle.replay.proofs.ChangeLaws.{message-rest}
 use Rattle.replay.proofs.changes.with_message.Statement.{statement}
 use Rattle.replay.proofs.changes.with_message.Tie as tie
@@ -33,11 +33,11 @@ put-bytes-requires : tie.Need-put-bytes-requires
 put-bytes-requires c κs = search rules
 
 returns : tie.Need-returns
-unfolding withMessage
+unfolding with_message
 returns c = rw (c.before.before.before.before.match.keys1, c.before.put.ensures, c.before.before.before.before.before.byte.ensures)
 
 returns-2 : tie.Need-returns-2
-unfolding withMessage
+unfolding with_message
 returns-2 c = rw (c.before.before.before.before.before.match.keys2, c.before.put-bytes.ensures, c.before.before.before.before.before.before.byte.ensures)
 
 returns-3 : tie.Need-returns-3

@@ -1,6 +1,6 @@
 -- `changes::with_order` meets its contract: PAL and the list of places, each by its own arm.
 use borrow.Author.Rules.{rules}
-use Rattle.replay.specs.Changes.{withOrder}
+use Rattle.replay.specs.Changes.{with_order}
 use Rattle.replay.proofs.ChangeLaws.{order-rest}
 use Rattle.replay.proofs.changes.with_order.Statement.{statement}
 use Rattle.replay.proofs.changes.with_order.Tie as tie
@@ -45,11 +45,11 @@ put-bytes-requires : tie.Need-put-bytes-requires
 put-bytes-requires c κs = search rules
 
 returns : tie.Need-returns
-unfolding withOrder
+unfolding with_order
 returns c = rw (c.before.before.before.before.before.before.match.keys1, c.before.put.ensures, c.before.before.before.before.before2.ensures, c.before.before.before3.ensures)
 
 returns-2 : tie.Need-returns-2
-unfolding withOrder
+unfolding with_order
 returns-2 c = rw (c.before.before.before.before.before.before.before.match.keys2, c.before.put-bytes.ensures, c.before.before.before.before.byte.ensures)
 
 returns-3 : tie.Need-returns-3

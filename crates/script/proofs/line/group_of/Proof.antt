@@ -4,7 +4,7 @@ use mathlib.Core.List.{[], ◌∷◌}
 use mathlib.Core.Path.{◌≡◌, refl, sym, ◌∙◌}
 use types.Run.{OneOf, miss}
 use denote.Enum.Declared.{tag_of}
-use Rattle.script.specs.Shown.{groupIn}
+use Rattle.script.specs.Shown.{group_in}
 use Rattle.script.specs.declared.line.Line.{Line}
 use Rattle.script.specs.declared.line.Line.TheVariants.{Group, Send, Arrive, Request, Take, Unreadable}
 use Rattle.script.specs.declared.line.Group.{Group as Opening}
@@ -13,8 +13,8 @@ use Rattle.script.specs.contracts.line.Line.{the_type}
 use Rattle.script.proofs.line.group_of.Statement.{statement}
 use Rattle.script.proofs.line.group_of.Tie as tie
 
-other : (l : Line) → OneOf (1 ∷ 2 ∷ 3 ∷ 4 ∷ 5 ∷ []) (tag_of the_type l) → ◌≡◌ {A = Opening} None (groupIn l)
-unfolding groupIn
+other : (l : Line) → OneOf (1 ∷ 2 ∷ 3 ∷ 4 ∷ 5 ∷ []) (tag_of the_type l) → ◌≡◌ {A = Opening} None (group_in l)
+unfolding group_in
 other (Group n w) h = absurd (miss (1 ∷ 2 ∷ 3 ∷ 4 ∷ 5 ∷ []) 0 tt h)
 other (Send u len) h = refl
 other (Arrive u f) h = refl
@@ -32,11 +32,11 @@ in-range-requires : tie.Need-in-range-requires
 in-range-requires c κs = search rules
 
 returns-2 : tie.Need-returns-2
-unfolding groupIn
+unfolding group_in
 returns-2 c = rw (c.before.before.before.l.given.1, sym c.before.in-range.ensures ∙ c.if1.true)
 
 returns-3 : tie.Need-returns-3
-unfolding groupIn
+unfolding group_in
 returns-3 c = rw (c.before.before.before.l.given.1, sym c.before.in-range.ensures ∙ c.if1.false)
 
 pub group-of-spec : {M : Type 1} → statement M

@@ -4,7 +4,7 @@ use Prim.Native.Nat.{◌≤◌}
 use mathlib.Core.Bool.{and-true, and-false}
 use borrow.Author.Tests.{lt-leb, le-leb}
 use Rattle.rules.specs.Maps.{between}
-use Rattle.rules.specs.Sound.{rangesFit}
+use Rattle.rules.specs.Sound.{ranges_fit}
 use Rattle.rules.proofs.MapsLaws.{is-between}
 use Rattle.script.specs.Script.{in_range}
 use Rattle.script.proofs.ItemsLaws.{below-between}
@@ -12,7 +12,7 @@ use Rattle.script.proofs.line.in_range.Statement.{statement}
 use Rattle.script.proofs.line.in_range.Tie as tie
 
 returns : tie.Need-returns
-unfolding in_range rangesFit
+unfolding in_range ranges_fit
 returns c = rw (below-between 2 8 c.before.args.n c.if1.true)
 
 returns-2 : tie.Need-returns-2
@@ -20,11 +20,11 @@ unfolding in_range
 returns-2 c = simp (lt-leb c.before.before.args.n 3 c.if2.true, and-false)
 
 returns-3 : tie.Need-returns-3
-unfolding in_range rangesFit
+unfolding in_range ranges_fit
 returns-3 c = simp (below-between 2 4 c.before.before.before.args.w c.if3.true, and-false)
 
 returns-4 : tie.Need-returns-4
-unfolding in_range rangesFit between
+unfolding in_range ranges_fit between
 returns-4 c =
     let n = c.before.before.before.args.n in
     let two : 2 ≤ n = c.before.before.if1.false in

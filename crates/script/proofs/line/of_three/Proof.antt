@@ -1,7 +1,7 @@
 -- `line::of_three` meets its contract: by the letter, and by what the last item is.
 use borrow.Author.Rules.{rules}
 use mathlib.Core.Path.{sym, ◌∙◌}
-use Rattle.script.proofs.ShownLaws.{shown-send, shown-no-word, shown-no-number, shown-numbered, valueIn-none, valueIn-is}
+use Rattle.script.proofs.ShownLaws.{shown-send, shown-no-word, shown-no-number, shown-numbered, value_in-none, value_in-is}
 use Rattle.script.proofs.line.of_three.Statement.{statement}
 use Rattle.script.proofs.line.of_three.Tie as tie
 
@@ -24,7 +24,7 @@ enum_told : tie.Need-enum-told
 enum_told c = search rules
 
 returns-3 : tie.Need-returns-3
-returns-3 c = shown-no-number _ _ _ (search rules) c.before.before.before.if1.false (valueIn-none _ (sym c.before.before.number.ensures ∙ c.enum_told.given.1))
+returns-3 c = shown-no-number _ _ _ (search rules) c.before.before.before.if1.false (value_in-none _ (sym c.before.before.number.ensures ∙ c.enum_told.given.1))
 
 numbered-requires : tie.Need-numbered-requires
 numbered-requires c κs = search rules
@@ -32,7 +32,7 @@ numbered-requires c κs = search rules
 returns-4 : tie.Need-returns-4
 returns-4 c =
     c.numbered.ensures
-    ∙ shown-numbered _ _ _ (search rules) _ c.before.before.before.before.before.if1.false (valueIn-is _ _ (sym c.before.before.before.before.number.ensures ∙ c.before.before.x.given.1))
+    ∙ shown-numbered _ _ _ (search rules) _ c.before.before.before.before.before.if1.false (value_in-is _ _ (sym c.before.before.before.before.number.ensures ∙ c.before.before.x.given.1))
 
 pub of-three-spec : {M : Type 1} → statement M
 of-three-spec =

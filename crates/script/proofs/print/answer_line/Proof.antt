@@ -3,7 +3,7 @@ use native.Mathlib.Omega.{arith}
 use borrow.Author.Rules.{rules}
 use mathlib.Core.List.{[]}
 use lib.ListN.{length-append}
-use Rattle.script.specs.Print.{decimal, replyLine}
+use Rattle.script.specs.Print.{decimal, reply_line}
 use Rattle.script.proofs.WrittenLaws.{put_item, length-joined, length-joined-last, put-wrote, short-wrote}
 use Rattle.script.proofs.print.answer_line.Statement.{statement}
 use Rattle.script.proofs.print.answer_line.Tie as tie
@@ -21,7 +21,7 @@ add-if1-2 : tie.Need-overflow-add-if1-2
 add-if1-2 c = search rules
 
 returns : tie.Need-returns
-unfolding replyLine
+unfolding reply_line
 returns c =
     let a = c.before.before.before.before.args in
     short-wrote _ _ (omega (arith, length-joined (decimal a.line) (decimal a.answer) [], length-joined-last (decimal a.answer)))
@@ -36,7 +36,7 @@ same_length : tie.Need-same-length
 same_length c = search rules
 
 returns-2 : tie.Need-returns-2
-unfolding replyLine
+unfolding reply_line
 returns-2 c =
     let a = c.before.before.before.before.before.before.before.before.before.before.before.before.args in
     put-wrote _ _ (omega (arith, length-joined (decimal a.line) (decimal a.answer) [], length-joined-last (decimal a.answer)))

@@ -3,7 +3,7 @@ use native.Mathlib.Omega.{arith}
 use borrow.Author.Rules.{rules}
 use mathlib.Core.List.{[], ◌∷◌}
 use lib.ListN.{length-append}
-use Rattle.script.specs.Print.{text, decimal, groupLine}
+use Rattle.script.specs.Print.{text, decimal, group_line}
 use Rattle.script.proofs.WrittenLaws.{put_item, length-joined, length-joined-last, put-wrote, short-wrote}
 use Rattle.script.proofs.print.group_line.Statement.{statement}
 use Rattle.script.proofs.print.group_line.Tie as tie
@@ -21,7 +21,7 @@ add-if1-2 : tie.Need-overflow-add-if1-2
 add-if1-2 c = search rules
 
 returns : tie.Need-returns
-unfolding groupLine
+unfolding group_line
 returns c =
     let n = decimal c.before.before.before.before.args.n in
     let w = decimal c.before.before.before.before.args.w in
@@ -43,7 +43,7 @@ same_length : tie.Need-same-length
 same_length c = search rules
 
 returns-2 : tie.Need-returns-2
-unfolding groupLine
+unfolding group_line
 returns-2 c =
     let window = c.before.before in
     let count = window.before.before.before.before in

@@ -3,7 +3,7 @@ use native.Mathlib.Omega.{arith}
 use borrow.Author.Rules.{rules}
 use mathlib.Core.List.{[], ◌∷◌}
 use lib.ListN.{length-append}
-use Rattle.script.specs.Print.{decimal, replyLine}
+use Rattle.script.specs.Print.{decimal, reply_line}
 use Rattle.script.proofs.WrittenLaws.{put_item, length-joined, length_taken, put-wrote, short-wrote}
 use Rattle.script.proofs.print.taken_line.Statement.{statement}
 use Rattle.script.proofs.print.taken_line.Tie as tie
@@ -27,7 +27,7 @@ add-front-3 : tie.Need-overflow-add-front-3
 add-front-3 c = search rules
 
 returns : tie.Need-returns
-unfolding replyLine
+unfolding reply_line
 returns c =
     let a = c.before.before.before.before.before.before.args in
     short-wrote _ _ (omega (arith, length_taken a.sender a.number a.word.now, length-joined (decimal a.line) (decimal 0) (decimal a.sender ∷ decimal a.number ∷ a.word.now ∷ [])))
@@ -36,7 +36,7 @@ sub-if2 : tie.Need-overflow-sub-if2
 sub-if2 c = search rules
 
 returns-2 : tie.Need-returns-2
-unfolding replyLine
+unfolding reply_line
 returns-2 c =
     let a = c.before.before.before.before.before.before.before.args in
     short-wrote _ _ (omega (arith, length_taken a.sender a.number a.word.now, length-joined (decimal a.line) (decimal 0) (decimal a.sender ∷ decimal a.number ∷ a.word.now ∷ [])))
@@ -53,7 +53,7 @@ same_length : tie.Need-same-length
 same_length c = search rules
 
 returns-3 : tie.Need-returns-3
-unfolding replyLine
+unfolding reply_line
 returns-3 c =
     let taken = c.before.before in
     let number = taken.before.before.before.before in

@@ -3,7 +3,7 @@ use native.Mathlib.Omega.{arith}
 use borrow.Author.Rules.{rules}
 use mathlib.Core.List.{[]}
 use lib.ListN.{length-append}
-use Rattle.script.specs.Print.{text, decimal, replyLine}
+use Rattle.script.specs.Print.{text, decimal, reply_line}
 use Rattle.script.proofs.WrittenLaws.{put_item, length-joined, put-wrote, short-wrote}
 use Rattle.script.proofs.print.unknown_line.Statement.{statement}
 use Rattle.script.proofs.print.unknown_line.Tie as tie
@@ -15,7 +15,7 @@ add-if1 : tie.Need-overflow-add-if1
 add-if1 c = search rules
 
 returns : tie.Need-returns
-unfolding replyLine
+unfolding reply_line
 returns c = short-wrote _ _ (omega (arith, length-joined (decimal c.before.before.before.args.line) (text "?") []))
 
 put-number-requires : tie.Need-put-number-requires
@@ -31,7 +31,7 @@ same_length : tie.Need-same-length
 same_length c = search rules
 
 returns-2 : tie.Need-returns-2
-unfolding replyLine
+unfolding reply_line
 returns-2 c =
     let k = c.before.before.before.before.before.before.before.before.before.before.before.before.args.line in
     put-wrote _ _ (omega (arith, length-joined (decimal k) (text "?") [])) (put_item (decimal k) (text "?") [] c.before.before.before.before.before.before.before.put-number.ensures c.before.before.put.ensures)

@@ -5,7 +5,7 @@ use Prim.Native.Nat.{ℕ, ◌+◌, ◌-◌, ◌≤◌}
 use native.Mathlib.Omega.{arith}
 use native.Mathlib.Numerals.{add-one}
 use borrow.Author.Rules.{rules}
-use Rattle.tables.specs.Rows.{withColumn}
+use Rattle.tables.specs.Rows.{with_column}
 use Rattle.state.specs.Opening.{rows_of}
 use Rattle.state.proofs.fresh.rows.Statement.{statement}
 use Rattle.state.proofs.fresh.rows.Tie as tie
@@ -38,8 +38,8 @@ loop-again c =
     let j = q.loop.j in (
       search rules,
       c.with-column.ensures
-          ∙ ap (λ (t : List ℕ). withColumn t (j + 1) v) q.loop.invariant.1
-          ∙ ap (λ (i : ℕ). withColumn (rows_of j v) i v) (add-one j)
+          ∙ ap (λ (t : List ℕ). with_column t (j + 1) v) q.loop.invariant.1
+          ∙ ap (λ (i : ℕ). with_column (rows_of j v) i v) (add-one j)
           ∙ ap (λ (i : ℕ). rows_of i v) (sym (add-one j)),
     )
 

@@ -11,7 +11,7 @@ use borrow.Author.Tests.{not-true, not-false}
 use Rattle.rules.specs.Maps.{between, at, every}
 use Rattle.tables.proofs.EveryLaws.{every_more, every-stop, every-end}
 use Rattle.tables.proofs.RowLaws.{at_next}
-use Rattle.state.specs.Soundness.{keptLengths}
+use Rattle.state.specs.Soundness.{kept_lengths}
 use Rattle.state.proofs.soundness.kept_fit.Statement.{statement}
 use Rattle.state.proofs.soundness.kept_fit.Tie as tie
 
@@ -27,7 +27,7 @@ tested kept n i least long x y z =
     ∙ sym z
 
 abbrev invariant-loop : tie.invariant-loop
-invariant-loop n m kept least i₀ i = ((i ≤ m) × (least ≡ 37 + 4 * n)) × (every (i + 1) (m - i) (fits kept n) ≡ keptLengths kept n m)
+invariant-loop n m kept least i₀ i = ((i ≤ m) × (least ≡ 37 + 4 * n)) × (every (i + 1) (m - i) (fits kept n) ≡ kept_lengths kept n m)
 
 abbrev decreases-loop : tie.decreases-loop
 decreases-loop n m kept least i₀ i = m - i
@@ -39,7 +39,7 @@ add-least : tie.Need-overflow-add-least invariant-loop decreases-loop
 add-least c = search rules
 
 loop-holds : tie.Need-loop-init invariant-loop decreases-loop
-unfolding keptLengths
+unfolding kept_lengths
 loop-holds c =
     let s = c.args in
     (search rules, ap (λ (m : ℕ). every 1 m (fits s.t1 s.n)) (sub-zero s.m))

@@ -3,12 +3,12 @@ use borrow.Author.Rules.{rules}
 use Prim.Native.Nat.{◌≤◌}
 use native.Mathlib.Omega.{arith}
 use borrow.Author.Tests.{lt-ltb, le-ltb, not-true, not-false}
-use Rattle.state.specs.Soundness.{nextsOf}
+use Rattle.state.specs.Soundness.{nexts_of}
 use Rattle.state.proofs.soundness.nexts_fit.Statement.{statement}
 use Rattle.state.proofs.soundness.nexts_fit.Tie as tie
 
 returns : tie.Need-returns
-unfolding nextsOf
+unfolding nexts_of
 returns c =
     let none : c.before.before.before.before.before.args.seq ≤ 0 = omega arith in
     rw (le-ltb _ _ none)
@@ -17,7 +17,7 @@ none-zero-requires : tie.Need-none-zero-requires
 none-zero-requires c κs = search rules
 
 returns-2 : tie.Need-returns-2
-unfolding nextsOf
+unfolding nexts_of
 returns-2 c =
     let req = c.before in
     let some : 1 ≤ req.before.before.before.before.before.before.args.seq = omega arith in
@@ -27,7 +27,7 @@ none-zero-requires-2 : tie.Need-none-zero-requires-2
 none-zero-requires-2 c κs = search rules
 
 returns-3 : tie.Need-returns-3
-unfolding nextsOf
+unfolding nexts_of
 returns-3 c =
     let heard = c.before in
     let req = heard.before.before in
@@ -38,7 +38,7 @@ table-none-zero-requires : tie.Need-table-none-zero-requires
 table-none-zero-requires c κs = search rules
 
 returns-4 : tie.Need-returns-4
-unfolding nextsOf
+unfolding nexts_of
 returns-4 c =
     let al = c.before in
     let heard = al.before.before in
@@ -50,7 +50,7 @@ table-none-zero-requires-2 : tie.Need-table-none-zero-requires-2
 table-none-zero-requires-2 c κs = search rules
 
 returns-5 : tie.Need-returns-5
-unfolding nextsOf
+unfolding nexts_of
 returns-5 c =
     let al = c.before.before in
     let heard = al.before.before in

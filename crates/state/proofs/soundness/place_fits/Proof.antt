@@ -3,7 +3,7 @@ use Prim.Native.Nat.{◌*◌, ◌≤◌, ◌<◌}
 use native.Mathlib.Omega.{arith}
 use borrow.Author.Rules.{rules}
 use borrow.Author.Tests.{le-leb, lt-leb, lt-ltb, le-ltb, not-true, not-false}
-use Rattle.lists.specs.Order.{senderOf, slot_of}
+use Rattle.lists.specs.Order.{sender_of, slot_of}
 use Rattle.state.specs.Soundness.{place_of}
 use Rattle.state.proofs.soundness.place_fits.Statement.{statement}
 use Rattle.state.proofs.soundness.place_fits.Tie as tie
@@ -15,7 +15,7 @@ returns : tie.Need-returns
 unfolding place_of
 returns c =
     let s = c.before.before.before.before.args in
-    let sender : s.n < senderOf s.p = omega arith in
+    let sender : s.n < sender_of s.p = omega arith in
     rw (lt-leb _ _ sender)
 
 mul-if2 : tie.Need-overflow-mul-if2
@@ -28,7 +28,7 @@ returns-2 : tie.Need-returns-2
 unfolding place_of
 returns-2 c =
     let s = c.before.before.before.before.before.args in
-    let sender : senderOf s.p ≤ s.n = omega arith in
+    let sender : sender_of s.p ≤ s.n = omega arith in
     let slot : 4 * s.w ≤ slot_of s.p = omega arith in
     rw (le-leb _ _ sender, le-ltb _ _ slot)
 
@@ -46,7 +46,7 @@ unfolding place_of
 returns-3 c =
     let seq = c.before in
     let s = seq.before.before.before.before.before.before.before.args in
-    let sender : senderOf s.p ≤ s.n = omega arith in
+    let sender : sender_of s.p ≤ s.n = omega arith in
     let slot : slot_of s.p < 4 * s.w = omega arith in
     rw (le-leb _ _ sender, lt-ltb _ _ slot, ← seq.before.get.ensures, ← seq.between.ensures, not-true seq.between.result c.if3.true)
 
@@ -65,7 +65,7 @@ returns-4 c =
     let acks = c.before in
     let seq = acks.before.before.before in
     let s = seq.before.before.before.before.before.before.before.args in
-    let sender : senderOf s.p ≤ s.n = omega arith in
+    let sender : sender_of s.p ≤ s.n = omega arith in
     let slot : slot_of s.p < 4 * s.w = omega arith in
     rw (le-leb _ _ sender, lt-ltb _ _ slot, ← seq.before.get.ensures, ← seq.between.ensures, not-false seq.between.result acks.before.before.if3.false, ← acks.before.tail.ensures, ← acks.none-zero.ensures, not-true acks.none-zero.result c.if4.true)
 
@@ -81,7 +81,7 @@ returns-5 c =
     let acks = c.before.before in
     let seq = acks.before.before.before in
     let s = seq.before.before.before.before.before.before.before.args in
-    let sender : senderOf s.p ≤ s.n = omega (arith, seq.before.before.before.if1.false) in
+    let sender : sender_of s.p ≤ s.n = omega (arith, seq.before.before.before.if1.false) in
     let slot : slot_of s.p < 4 * s.w = omega (arith, seq.before.before.if2.false) in
     rw (le-leb _ _ sender, lt-ltb _ _ slot, ← seq.before.get.ensures, ← seq.between.ensures, not-false seq.between.result acks.before.before.if3.false, ← acks.before.tail.ensures, ← acks.none-zero.ensures, not-false acks.none-zero.result c.before.if4.false, ← c.byte.ensures)
 

@@ -1,7 +1,7 @@
 -- `ranges_fit` meets its contract.
 use borrow.Author.Rules.{rules}
 use borrow.Author.Tests.{not-true, not-false}
-use Rattle.rules.specs.Sound.{rangesFit}
+use Rattle.rules.specs.Sound.{ranges_fit}
 use Rattle.state.proofs.soundness.ranges_fit.Statement.{statement}
 use Rattle.state.proofs.soundness.ranges_fit.Tie as tie
 
@@ -9,14 +9,14 @@ between-requires : tie.Need-between-requires
 between-requires c κs = search rules
 
 returns : tie.Need-returns
-unfolding rangesFit
+unfolding ranges_fit
 returns c = rw (← c.before.between.ensures, not-true c.before.between.result c.if1.true)
 
 between-requires-2 : tie.Need-between-requires-2
 between-requires-2 c κs = search rules
 
 returns-2 : tie.Need-returns-2
-unfolding rangesFit
+unfolding ranges_fit
 returns-2 c =
     let n = c.before.before.before.between in
     let w = c.before.between2 in
@@ -26,7 +26,7 @@ between-requires-3 : tie.Need-between-requires-3
 between-requires-3 c κs = search rules
 
 returns-3 : tie.Need-returns-3
-unfolding rangesFit
+unfolding ranges_fit
 returns-3 c =
     let n = c.before.before.before.before.between in
     let w = c.before.before.between2 in

@@ -4,7 +4,7 @@ use native.Mathlib.Omega.{arith}
 use borrow.Author.Rules.{rules}
 use borrow.Author.Tests.{not-true, not-false}
 use Rattle.rules.proofs.MapsLaws.{between-low}
-use Rattle.state.specs.Soundness.{windowOf}
+use Rattle.state.specs.Soundness.{window_of}
 use Rattle.state.proofs.soundness.window_fits.Statement.{statement}
 use Rattle.state.proofs.soundness.window_fits.Tie as tie
 
@@ -15,7 +15,7 @@ between-requires : tie.Need-between-requires
 between-requires c κs = search rules
 
 returns : tie.Need-returns
-unfolding windowOf
+unfolding window_of
 returns c = rw (← c.before.between.ensures, not-true c.before.between.result c.if1.true)
 
 sub-kept-fit : tie.Need-overflow-sub-kept-fit
@@ -25,7 +25,7 @@ kept-fit-requires : tie.Need-kept-fit-requires
 kept-fit-requires c κs = search rules
 
 returns-2 : tie.Need-returns-2
-unfolding windowOf
+unfolding window_of
 returns-2 c = rw (← c.before.before.between.ensures, not-false c.before.before.between.result c.before.if1.false) c.kept-fit.ensures
 
 pub window-fits-spec : {M : Type 1} → statement M

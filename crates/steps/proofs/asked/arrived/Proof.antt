@@ -1,7 +1,7 @@
 -- `arrived` meets its contract.
 use native.Mathlib.Omega.{arith}
 use borrow.Author.Tests.{eq-eqb, ne_eqb}
-use Rattle.steps.specs.Arrival.{requestArrival}
+use Rattle.steps.specs.Arrival.{request_arrival}
 use Rattle.steps.proofs.PassedLaws.{asks-some}
 use mathlib.Core.Path.{sym, ◌∙◌}
 use borrow.Author.Rules.{rules}
@@ -21,14 +21,14 @@ passed-requires : tie.Need-passed-requires
 passed-requires c κs = search rules
 
 returns : tie.Need-returns
-unfolding requestArrival
+unfolding request_arrival
 returns c = rw (← c.before.before.before.before.answer.ensures, eq-eqb _ _ c.before.before.before.if1.true, ← c.before.before.first.ensures) c.passed.ensures
 
 passed-requires-2 : tie.Need-passed-requires-2
 passed-requires-2 c κs = search rules
 
 returns-2 : tie.Need-returns-2
-unfolding requestArrival
+unfolding request_arrival
 returns-2 c = rw (← c.before.before.answer.ensures, ne_eqb _ _ c.before.if1.false) c.passed2.ensures
 
 pub arrived-spec : {M : Type 1} → statement M

@@ -1,5 +1,5 @@
 -- `first` meets its contract.
-use Rattle.steps.specs.Checks.{resendFrom}
+use Rattle.steps.specs.Checks.{resend_from}
 use borrow.Author.Rules.{rules}
 use Rattle.steps.proofs.asked.first.Statement.{statement}
 use Rattle.steps.proofs.asked.first.Tie as tie
@@ -14,7 +14,7 @@ larger-requires : tie.Need-larger-requires
 larger-requires c κs = search rules
 
 returns : tie.Need-returns
-unfolding resendFrom
+unfolding resend_from
 returns c = rw (← c.before.before.before.before.before.at.ensures, ← c.before.own-low.ensures) c.larger.ensures
 
 pub first_spec : {M : Type 1} → statement M

@@ -1,6 +1,6 @@
 -- `checked` meets its contract.
 use borrow.Author.Tests.{eq-eqb, ne_eqb}
-use Rattle.steps.specs.Sending.{sendingChecked}
+use Rattle.steps.specs.Sending.{sending_checked}
 use Rattle.steps.proofs.PassedLaws.{short-data}
 use mathlib.Core.Path.{sym, ◌∙◌}
 use borrow.Author.Rules.{rules}
@@ -14,14 +14,14 @@ kept-requires : tie.Need-kept-requires
 kept-requires c κs = (c.before.before.requires, short-data c.before.before.args.c c.before.before.args.len c.before.before.args.room (sym c.before.answer.ensures ∙ c.if1.true))
 
 returns : tie.Need-returns
-unfolding sendingChecked
+unfolding sending_checked
 returns c = rw (← c.before.before.answer.ensures, eq-eqb _ _ c.before.if1.true) c.kept.ensures
 
 refused-requires : tie.Need-refused-requires
 refused-requires c κs = search rules
 
 returns-2 : tie.Need-returns-2
-unfolding sendingChecked
+unfolding sending_checked
 returns-2 c = rw (← c.before.before.answer.ensures, ne_eqb _ _ c.before.if1.false) c.refused.ensures
 
 pub checked-spec : {M : Type 1} → statement M

@@ -1,8 +1,8 @@
 -- `kept` meets its contract.
 use native.Mathlib.Omega.{arith}
-use Rattle.state.specs.View.{freePlaces}
+use Rattle.state.specs.View.{free_places}
 use Rattle.steps.proofs.RangeLaws.{places-few}
-use Rattle.steps.specs.Sending.{sendingOwn, frameLength}
+use Rattle.steps.specs.Sending.{sending_own, frame_length}
 use borrow.Author.Rules.{rules}
 use Rattle.steps.proofs.own.kept.Statement.{statement}
 use Rattle.steps.proofs.own.kept.Tie as tie
@@ -38,14 +38,14 @@ stored-requires : tie.Need-stored-requires
 stored-requires c κs = search rules
 
 cast-t15 : tie.Need-overflow-cast-t15
-unfolding freePlaces
+unfolding free_places
 cast-t15 c = omega (arith, places-few c.before.before.before.before.before.before.before.args.c c.before.before.before.before.before.before.before.requires.0, c.before.before.before.before.before.free-places.ensures)
 
 kept-slot-requires : tie.Need-kept-slot-requires
 kept-slot-requires c κs = search rules
 
 returns : tie.Need-returns
-unfolding sendingOwn frameLength
+unfolding sending_own frame_length
 returns c = rw (← c.before.before.before.before.before.before.free-places.ensures, ← c.before.before.before.before.before.first-free.ensures, ← c.before.before.before.keeping.ensures, ← c.before.before.stored.ensures, ← c.kept_slot.ensures)
 
 pub kept-spec : {M : Type 1} → statement M

@@ -1,5 +1,5 @@
 -- `window_open` meets its contract.
-use Rattle.steps.specs.Checks.{windowOpen}
+use Rattle.steps.specs.Checks.{window_open}
 use borrow.Author.Rules.{rules}
 use Rattle.steps.proofs.own.window_open.Statement.{statement}
 use Rattle.steps.proofs.own.window_open.Tie as tie
@@ -35,7 +35,7 @@ add-result : tie.Need-overflow-add-result
 add-result c = search rules
 
 returns : tie.Need-returns
-unfolding windowOpen
+unfolding window_open
 returns c = rw (← c.own-low.ensures, ← c.before.before.before.before.before.least-of.ensures, ← c.before.before.before.before.lesser.ensures)
 
 pub window-open-spec : {M : Type 1} → statement M

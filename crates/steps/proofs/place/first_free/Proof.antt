@@ -1,8 +1,8 @@
 -- `first_free` meets its contract.
 use native.Mathlib.Omega.{arith}
 use Prim.Native.Nat.{◌*◌}
-use Rattle.steps.specs.Arrival.{freePlace}
-use Rattle.steps.proofs.RangeLaws.{freeOf-le}
+use Rattle.steps.specs.Arrival.{free_place}
+use Rattle.steps.proofs.RangeLaws.{free_of-le}
 use borrow.Author.Rules.{rules}
 use Rattle.steps.proofs.place.first_free.Statement.{statement}
 use Rattle.steps.proofs.place.first_free.Tie as tie
@@ -20,10 +20,10 @@ free-slot-requires : tie.Need-free-slot-requires
 free-slot-requires c κs = search rules
 
 add-result : tie.Need-overflow-add-result
-add-result c = omega (arith, c.free-slot.ensures, freeOf-le c.before.before.before.args.c.order c.before.before.before.args.j (4 * c.before.before.before.args.c.w), c.before.before.before.requires.0, c.before.before.before.requires.1.1)
+add-result c = omega (arith, c.free-slot.ensures, free_of-le c.before.before.before.args.c.order c.before.before.before.args.j (4 * c.before.before.before.args.c.w), c.before.before.before.requires.0, c.before.before.before.requires.1.1)
 
 returns : tie.Need-returns
-unfolding freePlace
+unfolding free_place
 returns c = rw (← c.free-slot.ensures)
 
 pub first-free-spec : {M : Type 1} → statement M

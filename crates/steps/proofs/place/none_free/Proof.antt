@@ -1,5 +1,5 @@
 -- `none_free` meets its contract.
-use Rattle.steps.specs.Checks.{noPlace}
+use Rattle.steps.specs.Checks.{no_place}
 use borrow.Author.Rules.{rules}
 use Rattle.steps.proofs.place.none_free.Statement.{statement}
 use Rattle.steps.proofs.place.none_free.Tie as tie
@@ -14,7 +14,7 @@ taken-of-requires : tie.Need-taken-of-requires
 taken-of-requires c κs = search rules
 
 returns : tie.Need-returns
-unfolding noPlace
+unfolding no_place
 returns c = rw (← c.Taken-of.ensures)
 
 pub none-free-spec : {M : Type 1} → statement M

@@ -5,9 +5,9 @@ use mathlib.Core.Path.{◌≡◌, sym, ap, ◌∙◌}
 use Prim.Native.Nat.{ℕ, ◌+◌, ◌*◌, ◌≤◌}
 use native.Mathlib.Omega.{arith}
 use lib.ListN.{length, take}
-use Rattle.store.specs.Arrays.{withoutFrames}
+use Rattle.store.specs.Arrays.{without_frames}
 use Rattle.steps.specs.declared.Sending.{Sending}
-use Rattle.steps.specs.Means.{ownFrame}
+use Rattle.steps.specs.Means.{own_frame}
 use Rattle.unit.proofs.Means.{sends-data}
 use Rattle.unit.proofs.Shape.{shaped}
 use Rattle.unit.proofs.Writing.{Sendable, sendable, own-length, own-written, own-fits, own-front, sent-refused, sent-done}
@@ -30,7 +30,7 @@ most : (w : tie.After-write-data) → let c = (start w).args.t1.core in c.n ≤ 
 most w = omega (arith, (passed w).ranges.n-high, (shaped (start w).args.t1 _ (start w).good.0.1.1).sized.req)
 
 front : (w : tie.After-write-data) → let a = (start w).args in
-    take (37 + 4 * a.t1.core.n + length a.text.now) w.write-data.last.0 ≡ ownFrame a.t1.core (sending w).buf a.text.now
+    take (37 + 4 * a.t1.core.n + length a.text.now) w.write-data.last.0 ≡ own_frame a.t1.core (sending w).buf a.text.now
 front w = own-front _ _ _ (most w) _ (passed w) _ _ w.write-data.ensures
 
 send-requires : tie.Need-send-requires
@@ -97,7 +97,7 @@ returns-2 c =
     (record {
       acks = c.before.before.before.before.before.before.before.put-ack.ensures;
       bytes = c.before.before.before.before.before.put-text.ensures;
-      frames = c.before.before.before.before.before.before.before.before.before.drop-frames.ensures ∙ ap (λ (l : List ℕ). withoutFrames l (sending w).gone) c.before.before.before.before.before.before.before.before.before.before.before.put-frame.ensures;
+      frames = c.before.before.before.before.before.before.before.before.before.drop-frames.ensures ∙ ap (λ (l : List ℕ). without_frames l (sending w).gone) c.before.before.before.before.before.before.before.before.before.before.before.put-frame.ensures;
       core = c.settled.ensures;
     }))
 

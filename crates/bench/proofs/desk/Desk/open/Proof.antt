@@ -1,6 +1,6 @@
 -- `Desk::open` meets its contract: three units, and an empty store.
 use borrow.Author.Rules.{rules}
-use Rattle.bench.specs.Desk.{startedDesk}
+use Rattle.bench.specs.Desk.{started_desk}
 use Rattle.bench.proofs.desk.Desk.open.Statement.{statement}
 use Rattle.bench.proofs.desk.Desk.open.Tie as tie
 
@@ -14,7 +14,7 @@ opened-unit-requires-3 : tie.Need-opened-unit-requires-3
 opened-unit-requires-3 c κs = search rules
 
 returns : tie.Need-returns
-unfolding startedDesk
+unfolding started_desk
 returns c = rw (c.before.before.opened-unit.ensures, c.before.opened-unit2.ensures, c.opened-unit3.ensures)
 
 pub open_spec : {M : Type 1} → statement M

@@ -98,6 +98,7 @@ module _ (s : State) where
     where
       first : (a : ℕ) → Refused a ((not (sound s) ⇒ 1) ∷ []) → Refused a (checks_of_said none)
       first a (now x y) = now x y
+      first a (later _ x) = elim x [ ]
   said-cases P l (some (message p)) e f g = data-cases s P p f (λ x. g _ (done-data l p e x))
   said-cases P l (some (request r)) e f g = request-cases s P r f (λ x. g _ (done-request l r e x))
 
@@ -204,3 +205,4 @@ open-cases P i n w cid first x y = decide-cases P _ _ (open_checks i n w cid fir
   where
     two : (a : ℕ) → Refused a (open_checks i n w cid first) → P (record { answer = a; unit = closed })
     two a (now h e) = subst (λ b. P (record { answer = b; unit = closed })) e x
+    two a (later _ x) = elim x [ ]

@@ -12,7 +12,7 @@ use script::print;
 use unit::Unit;
 
 // The next group, and how many bytes were printed.
-#[derive(Drop)]
+#[derive(Clone, Copy)]
 pub struct Done {
     pub desk: Desk,
     pub len: usize,

@@ -8,7 +8,7 @@ use tables;
 use unit::Unit;
 
 // Unit u is `units[u - 1]`, closed where u is more than n. Frame f stands in slot f - 1 of the store.
-#[derive(Drop)]
+#[derive(Clone, Copy)]
 pub struct Desk {
     pub n: u8,
     pub units: [Unit; Desk::UNITS],

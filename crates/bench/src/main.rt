@@ -1,4 +1,6 @@
 // The bench program: reads a script from standard input in parts, and prints what each of its lines answers.
+#![tactic(auto)]
+
 mod commands;
 mod desk;
 mod reading;
@@ -13,7 +15,7 @@ use reading::Bench;
 const PART: usize = 64;
 
 // The bench after one part, and whether there may be more to print.
-#[derive(Drop)]
+#[derive(Clone, Copy)]
 struct Next {
     bench: Bench,
     more: bool,

@@ -11,7 +11,7 @@ use script::line::{Group, Line};
 use script::{line, print};
 
 // `number` is that of the line to come: 1 the first, then the later ones, and OVER where no line is read any more.
-#[derive(Drop)]
+#[derive(Clone, Copy)]
 pub struct Bench {
     pub line: Collector,
     pub desk: Desk,
@@ -19,7 +19,7 @@ pub struct Bench {
 }
 
 // The bench with what was read, and how many bytes were printed.
-#[derive(Drop)]
+#[derive(Clone, Copy)]
 pub struct Told {
     pub bench: Bench,
     pub len: usize,

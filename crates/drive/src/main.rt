@@ -1,5 +1,7 @@
 // A lossless group: everyone sends in turn, each frame arrives at all the others, and everything is taken.
 // Standard input: n, W and the number of messages, as `3 4 100`. Prints a sum over what was taken.
+#![tactic(auto)]
+
 ghost use Rattle.std.specs.Prelude.{◌≡◌, ◌*◌, ◌<◌, ◌≤◌, length};
 ghost use Rattle.handing.specs.Handing.{Gives};
 ghost use Rattle.drive.specs.Run.{mixed, with_bytes, with_message, shown, visit_of, opened_units, unit_at, run_of};
@@ -9,7 +11,7 @@ use state::Opening;
 use unit::Unit;
 
 // The sum so far, and the unit then.
-#[derive(Drop)]
+#[derive(Clone, Copy)]
 struct Summed {
     sum: u32,
     unit: Unit,

@@ -6,7 +6,7 @@ use crate::number::number_at;
 use crate::table::length_fits;
 
 // A field: its content stands from start up to end.
-#[derive(Drop)]
+#[derive(Clone, Copy)]
 pub struct Field {
     pub ok: bool,
     pub start: usize,

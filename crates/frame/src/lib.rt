@@ -1,4 +1,6 @@
 // Reading frames: the table of tags, the fields, the numbers in them and the data as a part of the caller's frame.
+#![tactic(auto)]
+
 ghost use Rattle.std.specs.Prelude.{◌≡◌};
 ghost use Rattle.rules.specs.Message.{decode};
 ghost use Rattle.frame.specs.Frame.{frame_of, payload_of};
@@ -16,7 +18,7 @@ use reader::{content, well_formed};
 
 // What a frame says. With a refusal the answer is 3 and all else 0; what the kind lacks is 0. The data are `len`
 // bytes of the frame from `start` on.
-#[derive(Drop)]
+#[derive(Clone, Copy)]
 pub struct Frame {
     pub answer: u32,
     pub kind: u32,

@@ -53,7 +53,7 @@ fn no_zero(a: &[u32]) -> bool
 }
 
 // The numbers of ACK: n of the eight, the others being 0. None of the n is 0 where it is ok.
-#[derive(Drop)]
+#[derive(Clone, Copy)]
 pub struct Acks {
     pub ok: bool,
     pub n: usize,

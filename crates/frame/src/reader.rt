@@ -8,7 +8,7 @@ ghost use Rattle.frame.specs.Reader.{begun, next_of, after_of, part_of};
 use crate::field::{Field, field_at, part_at};
 use crate::table::has_tag;
 
-#[derive(Drop)]
+#[derive(Clone, Copy)]
 pub struct Reader<'a> {
     pub frame: &'a [u8],
     pub at: usize,

@@ -5,7 +5,7 @@ ghost use Rattle.frame.specs.Table.{line_of, has, length_fits};
 
 // The content of a field is numbers of `width` bytes each; its length in bytes is from `least` to `greatest`; data
 // messages have the field, requests have it.
-#[derive(Drop)]
+#[derive(Clone, Copy)]
 pub struct Row {
     pub width: u8,
     pub least: u8,

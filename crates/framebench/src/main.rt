@@ -1,4 +1,6 @@
 // Writes and reads back as many data frames as standard input says, and prints the sum of what was read.
+#![tactic(auto)]
+
 ghost use Rattle.std.specs.Prelude.{◌≡◌, ◌+◌, ◌<◌, length};
 ghost use Rattle.std.proofs.Math.Option.{some};
 ghost use Rattle.rules.specs.Message.{message};

@@ -8,7 +8,7 @@ use crate::field::{ACK, DATA, put_field, put_text};
 use frame::table::has_tag;
 
 // The numbers of a message that stand alone in their fields; what the kind lacks is not read.
-#[derive(Drop)]
+#[derive(Clone, Copy)]
 pub struct Singles {
     pub kind: u8,
     pub cid: u32,

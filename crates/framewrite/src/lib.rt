@@ -1,4 +1,6 @@
 // Writing frames, by the table of tags that the reader has.
+#![tactic(auto)]
+
 ghost use Rattle.std.specs.Prelude.{take};
 ghost use Rattle.framewrite.specs.Writing.{message_of, request_of, data_written, request_written, Wrote};
 

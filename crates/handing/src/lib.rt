@@ -1,4 +1,6 @@
 // What a unit hands out without storing anything: the oldest confirmed message, a request, a kept frame, and looks.
+#![tactic(auto)]
+
 ghost use Rattle.std.specs.Prelude.{◌≡◌};
 ghost use Rattle.handing.specs.Handing.{Gives, not_taken, taking_of, asking_of, copying_of};
 
@@ -13,7 +15,7 @@ use tables;
 
 // The oldest confirmed message: its sender, its number, the length of its data, and the unit without it. With a
 // refusal the numbers are 0, and the unit is as it was.
-#[derive(Drop)]
+#[derive(Clone, Copy)]
 pub struct Taken {
     pub answer: u32,
     pub src: u8,
@@ -23,7 +25,7 @@ pub struct Taken {
 }
 
 // A frame in the lent output: its length, 0 with a refusal.
-#[derive(Drop)]
+#[derive(Clone, Copy)]
 pub struct Handed {
     pub answer: u32,
     pub len: usize,

@@ -9,7 +9,7 @@ use state::{Core, is_unit, own_low, sound};
 use tables;
 
 // A range of numbers by its first and its count, or a count alone.
-#[derive(Drop)]
+#[derive(Clone, Copy)]
 pub struct Look {
     pub answer: u32,
     pub first: u32,

@@ -1,5 +1,7 @@
 // The taken places of a unit in order, and what pre-acknowledging, confirming, accepting and taking do to the order.
 // Place number 16 (j - 1) + slot is a place of sender j. Messages stay put; only place numbers move.
+#![tactic(auto)]
+
 mod confirm;
 mod preack;
 
@@ -11,7 +13,7 @@ ghost use Rattle.lists.specs.Settle.{settled_of};
 use tables;
 
 // PAL, and the taken places: the confirmed ones, then the ordered, then the waiting.
-#[derive(Drop)]
+#[derive(Clone, Copy)]
 pub struct Order {
     pub pal: [u32; 64],
     pub list: [u8; 128],

@@ -12,7 +12,7 @@ use tables;
 use unit::Unit;
 
 // Answer and numbers of a call, those that it lacks being 0, and the next unit.
-#[derive(Drop)]
+#[derive(Clone, Copy)]
 pub struct Made {
     pub answer: u32,
     pub a: usize,

@@ -1,5 +1,7 @@
 // Calls of the unit as bytes: reads them from standard input, makes them on eight units, and prints what each gave
 // (docs/REPLAY.md).
+#![tactic(auto)]
+
 mod calls;
 mod changes;
 mod record;

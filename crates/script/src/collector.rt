@@ -8,7 +8,7 @@ use crate::line;
 use crate::line::Line;
 
 // The first 80 bytes of the line, and whether there were more.
-#[derive(Drop)]
+#[derive(Clone, Copy)]
 pub struct Collector {
     pub bytes: [u8; line::LONGEST],
     pub len: usize,

@@ -4,7 +4,7 @@ ghost use Rattle.script.specs.Items.{is_printable, is_word};
 ghost use Rattle.script.specs.Shown.{digit_of, held, digits_from, value_in};
 
 // What an item says as a number. One that passes 32 bits counts as 4,294,967,295.
-#[derive(Drop)]
+#[derive(Clone, Copy)]
 pub enum Value {
     Is(u32),
     None,

@@ -11,7 +11,7 @@ use crate::{bytes, item};
 pub const LONGEST: usize = 80;
 
 // A number that passes 32 bits counts as 4,294,967,295, which is no unit and no frame.
-#[derive(Drop)]
+#[derive(Clone, Copy)]
 pub enum Line {
     Group { n: u32, w: u32 },
     // The word is the last len bytes of the line.
@@ -23,7 +23,7 @@ pub enum Line {
 }
 
 // The group that a first line names.
-#[derive(Drop)]
+#[derive(Clone, Copy)]
 pub enum Group {
     Of { n: u32, w: u32 },
     None,

@@ -1,4 +1,6 @@
 // What a unit holds in numbers: everything but ACK and data of its places, and the kept frames, which are lent.
+#![tactic(auto)]
+
 mod fresh;
 mod soundness;
 
@@ -25,7 +27,7 @@ pub const MOST_DATA: usize = 48;
 
 // The kept frame of number s is in slot s - min_al of the own index, and `kept` holds its length. `seqs` and `lens`
 // hold number and data length of the message at each place.
-#[derive(Drop)]
+#[derive(Clone, Copy)]
 pub struct Core {
     pub me: u8,
     pub n: u8,
@@ -44,7 +46,7 @@ pub struct Core {
 
 // What a unit is opened with: its own index, how many units there are, the window, the group's number, and the first
 // number of each unit.
-#[derive(Drop)]
+#[derive(Clone, Copy)]
 pub struct Opening {
     pub me: u8,
     pub n: u8,
@@ -54,7 +56,7 @@ pub struct Opening {
 }
 
 // Answer number and unit.
-#[derive(Drop)]
+#[derive(Clone, Copy)]
 pub struct Opened {
     pub answer: u32,
     pub core: Core,

@@ -1,4 +1,6 @@
 // The steps of a unit on its numbers: an arrival and a send, up to what is to be written into the arrays.
+#![tactic(auto)]
+
 mod asked;
 mod data;
 mod own;
@@ -17,7 +19,7 @@ use state::Core;
 
 // What an arrival answers, the first and last number of the range to resend, and the unit's next numbers. Where it
 // stores, the ACK and the data of the frame belong to the place, and the oldest `gone` kept frames are no longer kept.
-#[derive(Drop)]
+#[derive(Clone, Copy)]
 pub struct Arrival {
     pub answer: u32,
     pub first: u32,
@@ -31,7 +33,7 @@ pub struct Arrival {
 
 // What a send answers, the BUF of its message, and the unit's next numbers. Where it answers 0, the frame belongs to
 // the slot and then the oldest `gone` are no longer kept; ACK and data belong to the place.
-#[derive(Drop)]
+#[derive(Clone, Copy)]
 pub struct Sending {
     pub answer: u32,
     pub buf: u16,

@@ -1,4 +1,6 @@
 // What accepting and keeping a message does to a unit's numbers and arrays.
+#![tactic(auto)]
+
 pub mod arrays;
 
 ghost use Rattle.std.specs.Prelude.{◌≡◌};
@@ -9,7 +11,7 @@ use state::{Core, own_low};
 use tables;
 
 // A message to store at a place: the sender follows from the place, and `len` is the length of its data.
-#[derive(Drop)]
+#[derive(Clone, Copy)]
 pub struct Accepting {
     pub place: u8,
     pub seq: u32,
@@ -19,7 +21,7 @@ pub struct Accepting {
 }
 
 // How many kept frames are gone, and the numbers then.
-#[derive(Drop)]
+#[derive(Clone, Copy)]
 pub struct Next {
     pub gone: u32,
     pub core: Core,

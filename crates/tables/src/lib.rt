@@ -1,4 +1,6 @@
 // Numbers and bytes in rows, and tables of eight rows of eight: reads and writes that no index can break.
+#![tactic(auto)]
+
 ghost use Rattle.std.specs.Prelude.{◌≡◌, ◌+◌, ◌-◌, ◌*◌, ◌<◌, min, max, get_or, take, drop, set};
 ghost use Rattle.std.proofs.lemmas.List.Edits.{sets};
 ghost use Rattle.rules.specs.Maps.{at, least, every};

@@ -1,4 +1,6 @@
 // The unit of a cab: one value, opened once, and the calls on it.
+#![tactic(auto)]
+
 ghost use Rattle.rules.specs.Looks as rules;
 ghost use Rattle.handing.specs.Looks.{to_take_in, free_places_in, kept_numbers_in, missing_in, waiting_in};
 ghost use Rattle.unit.specs.View.{view};
@@ -16,7 +18,7 @@ use store;
 use store::arrays;
 
 // A unit of a group: its numbers, ACK and data of its places, and the frames that it keeps.
-#[derive(Drop)]
+#[derive(Clone, Copy)]
 pub struct Unit {
     pub core: Core,
     pub acks: [u32; Unit::PLACES * Unit::MOST_UNITS],
@@ -25,14 +27,14 @@ pub struct Unit {
 }
 
 // With 0 the unit; with 2 the closed unit, all numbers 0.
-#[derive(Drop)]
+#[derive(Clone, Copy)]
 pub struct Opened {
     pub answer: u32,
     pub unit: Unit,
 }
 
 // Number and length of the frame that was sent, 0 with a refusal, and the next unit.
-#[derive(Drop)]
+#[derive(Clone, Copy)]
 pub struct Sent {
     pub answer: u32,
     pub seq: u32,
@@ -41,7 +43,7 @@ pub struct Sent {
 }
 
 // First and last number to resend, where a request was answered, and the next unit.
-#[derive(Drop)]
+#[derive(Clone, Copy)]
 pub struct Arrived {
     pub answer: u32,
     pub first: u32,
@@ -50,7 +52,7 @@ pub struct Arrived {
 }
 
 // Sender, number and data length of the message taken, 0 with a refusal, and the next unit.
-#[derive(Drop)]
+#[derive(Clone, Copy)]
 pub struct Taken {
     pub answer: u32,
     pub src: u8,

@@ -1,0 +1,6 @@
+-- `print::put` meets its contract.
+use borrow.Author.Rules.{rules}
+use Rattle.script.proofs.print.put.Goals as goal
+
+pub returns : goal.returns
+returns c = record { bytes = c.put_bytes.ensures; place = search rules; long = search rules }

@@ -11,6 +11,7 @@ use Rattle.rules.specs.Maps.{listed}
 use Rattle.lists.specs.Order.{sender_of, slot_of, is_of, total, entry, marked, slots_in, slots_of}
 use Rattle.lists.proofs.OnlyLaws.{only-more, only-pass}
 use Rattle.lists.proofs.slots.Goals as goal
+use Rattle.lists.proofs.slots.Goals.{then-p-j, else-p-j}
 
 pub loop-q-init : goal.loop-q-init
 unfolding slots_of
@@ -26,19 +27,19 @@ loop-q-preserved c =
     let end = c.taken-end.result in
     let in-loop = c.loop-q-test.true in (
       search rules,
-      ⊎_elim
-          (λ w.
+      elim c.if-p-j.branch [
+        then-p-j w ↦
           let e : sender_of (entry s.o k) ≡ s.j = omega arith in
           ap (λ (m : List Bool). marked m (slots_in s.j (listed (k + 1) (end - (k + 1)) (entry s.o))))
-          (w.1 ∙ ap (λ (p : ℕ). set c.loop-q.marks (slot_of p) true) c.byte-p.ensures)
+          (w.marks-is ∙ ap (λ (p : ℕ). set c.loop-q.marks (slot_of p) true) c.byte-p.ensures)
           ∙ sym (ap (λ (l : List ℕ). marked c.loop-q.marks (map slot_of l)) (only-more (is_of s.j) (entry s.o) k end in-loop (eq-eqb _ _ e)))
-          ∙ c.loop-q.invariant.1)
-          (λ w.
+          ∙ c.loop-q.invariant.1
+        | else-p-j w ↦
           let d : sender_of (entry s.o k) ≢ s.j = omega arith in
-          ap (λ (m : List Bool). marked m (slots_in s.j (listed (k + 1) (end - (k + 1)) (entry s.o)))) w.1
+          ap (λ (m : List Bool). marked m (slots_in s.j (listed (k + 1) (end - (k + 1)) (entry s.o)))) w.marks-is
           ∙ sym (ap (λ (l : List ℕ). marked c.loop-q.marks (map slot_of l)) (only-pass (is_of s.j) (entry s.o) k end in-loop (ne_eqb _ _ d)))
-          ∙ c.loop-q.invariant.1)
-          c.if-p-j.branch,
+          ∙ c.loop-q.invariant.1
+      ],
     )
 
 pub returns : goal.returns

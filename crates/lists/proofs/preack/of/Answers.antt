@@ -8,7 +8,9 @@ use Rattle.lists.specs.declared.Order.{Order}
 use Rattle.lists.specs.Order.{sender_of, entry}
 use Rattle.lists.specs.Settle.{acked_at, acked_from}
 use Rattle.lists.proofs.PreackLaws.{turn-joined, turn-passed, acked-join, acked-pass, acked-stop, acked-end}
+use Rattle.lists.proofs.preack.of.Invariants.{Here}
 use Rattle.lists.proofs.preack.of.Goals as goal
+use Rattle.lists.proofs.preack.of.Goals.{then-p-j+else-low-get, else-p-j}
 
 pub loop-q-init : goal.loop-q-init
 unfolding acked_from
@@ -41,22 +43,22 @@ loop-q-preserved c =
     let o = c.loop-q.o in
     let end = c.taken-end.result in
     let in-loop = c.loop-q-test.true in
-    ⊎_elim
-    (λ w.
+    elim c.if-p-j.branch [
+      then-p-j+else-low-get w ↦
     let e : sender_of (entry o k) ≡ s.j = omega arith in
     let same = ap (λ (p : ℕ). get_or s.seqs.now p 0) c.byte-p.ensures in
     let u : get_or s.seqs.now (entry o k) 0 < s.low = omega arith in
-    subst (λ (r : Order). invariant-loop s.j s.low s.seqs.now s.acks.now end s.first k r (k + 1)) (sym (w.4 ∙ w.3.ensures)) (
+    subst (λ (r : Order). Here s.j s.low s.seqs.now s.acks.now end s.first r (k + 1)) (sym (w.o-is ∙ w.joined-o.ensures)) (
       turn-joined s.j s.low s.seqs.now s.acks.now o end k in-loop c.loop-q.invariant.0,
       acked-join s.j s.low s.seqs.now s.acks.now o end k in-loop (eq-eqb _ _ e) (lt-leb _ _ u) c.loop-q.invariant.1,
-    ))
-    (λ w.
+    )
+      | else-p-j w ↦
     let d : sender_of (entry o k) ≢ s.j = omega arith in
-    subst (λ (r : Order). invariant-loop s.j s.low s.seqs.now s.acks.now end s.first k r (k + 1)) (sym w.1) (
+    subst (λ (r : Order). Here s.j s.low s.seqs.now s.acks.now end s.first r (k + 1)) (sym w.o-is) (
       turn-passed end k o in-loop c.loop-q.invariant.0,
       acked-pass s.j s.low s.seqs.now s.acks.now o end k in-loop (ne_eqb _ _ d) c.loop-q.invariant.1,
-    ))
-    c.if-p-j.branch
+    )
+    ]
 
 pub returns : goal.returns
 returns c =

@@ -8,10 +8,10 @@ pub slice_bounds-number-end : goal.slice_bounds-number-end
 slice_bounds-number-end c = sym (length-take-le _ _ c.find-e.ensures.within)
 
 pub returns-in_default : goal.returns-in_default
-returns-in_default c = after_none _ _ _ c.find-e.ensures (sym c.number.ensures ∙ c.enum_told-1.given.1)
+returns-in_default c = after_none _ _ _ c.find-e.ensures (sym c.number.ensures ∙ c.in_default.is)
 
 pub returns-then-e-s : goal.returns-then-e-s
-returns-then-e-s c = c.of_two.ensures ∙ after_two _ _ _ c.find-e.ensures _ c.if-e-s.true (sym c.number.ensures ∙ c.u-1.given.1)
+returns-then-e-s c = c.of_two.ensures ∙ after_two _ _ _ c.find-e.ensures _ c.if-e-s.true (sym c.number.ensures ∙ c.in-Is.is)
 
 pub returns : goal.returns
-returns c = c.of_three.ensures ∙ after-three _ _ _ c.find-e.ensures _ c.if-e-s.false (sym c.number.ensures ∙ c.u-1.given.1)
+returns c = c.of_three.ensures ∙ after-three _ _ _ c.find-e.ensures _ c.if-e-s.false (sym c.number.ensures ∙ c.in-Is.is)

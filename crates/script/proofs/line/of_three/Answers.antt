@@ -5,15 +5,15 @@ use Rattle.script.proofs.ShownLaws.{shown-send, shown-no-word, shown-no-number, 
 use Rattle.script.proofs.line.of_three.Goals as goal
 
 pub returns-then-is_word : goal.returns-then-is_word
-returns-then-is_word c = shown-send _ _ _ (search rules) c.if-c-eq83.true (sym c.before.is_IsWord.ensures ∙ c.if-is_word.true)
+returns-then-is_word c = shown-send _ _ _ (search rules) c.if-c-eq83.true (sym c.is_word.ensures ∙ c.if-is_word.true)
 
 pub returns-then-c-eq83 : goal.returns-then-c-eq83
-returns-then-c-eq83 c = shown-no-word _ _ _ (search rules) c.if-c-eq83.true (sym c.before.is_IsWord.ensures ∙ c.if-is_word.false)
+returns-then-c-eq83 c = shown-no-word _ _ _ (search rules) c.if-c-eq83.true (sym c.is_word.ensures ∙ c.if-is_word.false)
 
 pub returns-in_default : goal.returns-in_default
-returns-in_default c = shown-no-number _ _ _ (search rules) c.if-c-eq83.false (value_in-none _ (sym c.number.ensures ∙ c.enum_told-1.given.1))
+returns-in_default c = shown-no-number _ _ _ (search rules) c.if-c-eq83.false (value_in-none _ (sym c.number.ensures ∙ c.in_default.is))
 
 pub returns : goal.returns
 returns c =
     c.numbered.ensures
-    ∙ shown-numbered _ _ _ (search rules) _ c.if-c-eq83.false (value_in-is _ _ (sym c.number.ensures ∙ c.x-1.given.1))
+    ∙ shown-numbered _ _ _ (search rules) _ c.if-c-eq83.false (value_in-is _ _ (sym c.number.ensures ∙ c.in-Is.is))

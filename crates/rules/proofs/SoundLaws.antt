@@ -10,7 +10,7 @@ use borrow.Author.Tests.{ltb-true, leb-true, eqb-true, lt-ltb, le-leb, eq-eqb}
 use Rattle.rules.specs.Maps.{between, all, at, every}
 use Rattle.rules.specs.Message.{last, no_zero}
 use Rattle.rules.specs.State.{Place, State, min_al, taken}
-use Rattle.rules.specs.Sound.{ranges_fit, nexts_fit, window_fits, place_fits, kept_fit, once, sound}
+use Rattle.rules.specs.Sound.{ranges_fit, nexts_fit, window_fits, place_fits, kept_fit, sound}
 use Rattle.rules.proofs.MapsLaws.{and_left, and_right, and_intro, between-low, between-high, is-between, every-at, every-intro}
 use Rattle.rules.proofs.PlacesLaws.{all-mem, mem-all, count, once-count, count-once}
 

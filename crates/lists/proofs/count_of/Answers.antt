@@ -16,14 +16,14 @@ loop-q-preserved c =
     let k = c.loop-q.q in
     let in-loop = c.loop-q-test.true in
     elim c.if-byte-j.branch [
-      then-byte-j w ↦
-    let e : sender_of (entry s.o k) ≡ s.j = omega arith in
-    let more = ap length (only-more (is_of s.j) (entry s.o) k s.end in-loop (eq-eqb _ _ e)) in
-    omega arith
+      | then-byte-j w ↦
+          let e : sender_of (entry s.o k) ≡ s.j = omega arith in
+          let more = ap length (only-more (is_of s.j) (entry s.o) k s.end in-loop (eq-eqb _ _ e)) in
+          omega arith
       | else-byte-j w ↦
-    let d : sender_of (entry s.o k) ≢ s.j = omega arith in
-    let more = ap length (only-pass (is_of s.j) (entry s.o) k s.end in-loop (ne_eqb _ _ d)) in
-    omega arith
+          let d : sender_of (entry s.o k) ≢ s.j = omega arith in
+          let more = ap length (only-pass (is_of s.j) (entry s.o) k s.end in-loop (ne_eqb _ _ d)) in
+          omega arith
     ]
 
 pub returns : goal.returns

@@ -1,6 +1,6 @@
 use mathlib.Core.Bool.{Bool, true, false}
 use mathlib.Core.List.{List, map}
-use mathlib.Core.Logic.{◌≢◌, ⊎_elim}
+use mathlib.Core.Logic.{◌≢◌}
 use mathlib.Core.Path.{◌≡◌, sym, ap, ◌∙◌}
 use Prim.Native.Nat.{ℕ, ◌+◌, ◌-◌}
 use native.Mathlib.Omega.{arith}
@@ -28,17 +28,17 @@ loop-q-preserved c =
     let in-loop = c.loop-q-test.true in (
       search rules,
       elim c.if-p-j.branch [
-        then-p-j w ↦
-          let e : sender_of (entry s.o k) ≡ s.j = omega arith in
-          ap (λ (m : List Bool). marked m (slots_in s.j (listed (k + 1) (end - (k + 1)) (entry s.o))))
-          (w.marks-is ∙ ap (λ (p : ℕ). set c.loop-q.marks (slot_of p) true) c.byte-p.ensures)
-          ∙ sym (ap (λ (l : List ℕ). marked c.loop-q.marks (map slot_of l)) (only-more (is_of s.j) (entry s.o) k end in-loop (eq-eqb _ _ e)))
-          ∙ c.loop-q.invariant.1
+        | then-p-j w ↦
+            let e : sender_of (entry s.o k) ≡ s.j = omega arith in
+            ap (λ (m : List Bool). marked m (slots_in s.j (listed (k + 1) (end - (k + 1)) (entry s.o))))
+            (w.marks-is ∙ ap (λ (p : ℕ). set c.loop-q.marks (slot_of p) true) c.byte-p.ensures)
+            ∙ sym (ap (λ (l : List ℕ). marked c.loop-q.marks (map slot_of l)) (only-more (is_of s.j) (entry s.o) k end in-loop (eq-eqb _ _ e)))
+            ∙ c.loop-q.invariant.1
         | else-p-j w ↦
-          let d : sender_of (entry s.o k) ≢ s.j = omega arith in
-          ap (λ (m : List Bool). marked m (slots_in s.j (listed (k + 1) (end - (k + 1)) (entry s.o)))) w.marks-is
-          ∙ sym (ap (λ (l : List ℕ). marked c.loop-q.marks (map slot_of l)) (only-pass (is_of s.j) (entry s.o) k end in-loop (ne_eqb _ _ d)))
-          ∙ c.loop-q.invariant.1
+            let d : sender_of (entry s.o k) ≢ s.j = omega arith in
+            ap (λ (m : List Bool). marked m (slots_in s.j (listed (k + 1) (end - (k + 1)) (entry s.o)))) w.marks-is
+            ∙ sym (ap (λ (l : List ℕ). marked c.loop-q.marks (map slot_of l)) (only-pass (is_of s.j) (entry s.o) k end in-loop (ne_eqb _ _ d)))
+            ∙ c.loop-q.invariant.1
       ],
     )
 

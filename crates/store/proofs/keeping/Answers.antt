@@ -20,6 +20,6 @@ returns c =
     ap (λ (n : ℕ). with_seq x n c.if-at-lt4.kept) c.next-next.ensures
     ∙ ap (with_seq x (after x.seq))
     elim c.if-at-lt4.branch [
-      then-at-lt4 w ↦ w.kept-is ∙ ap (λ (i : ℕ). set x.kept i len) e
+      | then-at-lt4 w ↦ w.kept-is ∙ ap (λ (i : ℕ). set x.kept i len) e
       | else-at-lt4 w ↦ w.kept-is ∙ sym (set_out x.kept (kept_slot x) len (omega arith))
     ]

@@ -1,5 +1,4 @@
 use mathlib.Core.Path.{◌∙◌}
-use Prim.Native.Nat.{◌-◌}
 use borrow.Author.Rules.{rules}
 use Rattle.tables.proofs.RowLaws.{least-one, least_more, least-end}
 use Rattle.tables.proofs.least_of.Goals as goal

@@ -1,6 +1,4 @@
-use mathlib.Core.Logic.{⊎_elim}
 use mathlib.Core.Path.{◌∙◌}
-use Prim.Native.Nat.{◌-◌}
 use native.Mathlib.Omega.{arith}
 use borrow.Author.Rules.{rules}
 use borrow.Author.Tests.{lt-ltb, le-ltb}
@@ -17,7 +15,7 @@ loop-k-preserved c =
     let f = cell s.n s.a s.b in (
       search rules,
       elim c.if-k-n.branch [
-        then-k-n w ↦ w.c-is ∙ filled-set s.a f k _ (omega arith) (rw (lt-ltb k s.n w.if-k-n.true) w.larger.ensures) c.loop-k.invariant.1
+        | then-k-n w ↦ w.c-is ∙ filled-set s.a f k _ (omega arith) (rw (lt-ltb k s.n w.if-k-n.true) w.larger.ensures) c.loop-k.invariant.1
         | else-k-n w ↦ w.c-is ∙ filled-skip s.a f k (omega arith) (rw (le-ltb k s.n w.if-k-n.false)) c.loop-k.invariant.1
       ],
     )

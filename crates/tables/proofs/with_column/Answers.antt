@@ -1,6 +1,5 @@
-use mathlib.Core.Logic.{⊎_elim}
 use mathlib.Core.Path.{◌∙◌}
-use Prim.Native.Nat.{◌+◌, ◌-◌, ◌%◌}
+use Prim.Native.Nat.{◌+◌, ◌%◌}
 use native.Mathlib.Omega.{arith}
 use borrow.Author.Rules.{rules}
 use borrow.Author.Tests.{eq-eqb, ne_eqb}
@@ -17,7 +16,7 @@ loop-q-preserved c =
     let f = cell s.t s.j s.v.now in (
       search rules,
       elim c.if-q-c.branch [
-        then-q-c w ↦ w.b-is ∙ filled-set s.t f i _ (omega arith) (rw (eq-eqb (i % 8 + 1) s.j w.if-q-c.true) w.get.ensures) c.loop-q.invariant.1
+        | then-q-c w ↦ w.b-is ∙ filled-set s.t f i _ (omega arith) (rw (eq-eqb (i % 8 + 1) s.j w.if-q-c.true) w.get.ensures) c.loop-q.invariant.1
         | else-q-c w ↦ w.b-is ∙ filled-skip s.t f i (omega arith) (rw (ne_eqb (i % 8 + 1) s.j w.if-q-c.false)) c.loop-q.invariant.1
       ],
     )

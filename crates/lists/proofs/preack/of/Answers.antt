@@ -1,4 +1,4 @@
-use mathlib.Core.Logic.{◌≢◌, ⊎_elim}
+use mathlib.Core.Logic.{◌≢◌}
 use mathlib.Core.Path.{◌≡◌, sym, ap, subst, ◌∙◌}
 use Prim.Native.Nat.{ℕ, ◌+◌, ◌-◌, ◌≤◌, ◌<◌}
 use native.Mathlib.Omega.{arith}
@@ -44,20 +44,20 @@ loop-q-preserved c =
     let end = c.taken-end.result in
     let in-loop = c.loop-q-test.true in
     elim c.if-p-j.branch [
-      then-p-j+else-low-get w ↦
-    let e : sender_of (entry o k) ≡ s.j = omega arith in
-    let same = ap (λ (p : ℕ). get_or s.seqs.now p 0) c.byte-p.ensures in
-    let u : get_or s.seqs.now (entry o k) 0 < s.low = omega arith in
-    subst (λ (r : Order). Here s.j s.low s.seqs.now s.acks.now end s.first r (k + 1)) (sym (w.o-is ∙ w.joined-o.ensures)) (
-      turn-joined s.j s.low s.seqs.now s.acks.now o end k in-loop c.loop-q.invariant.0,
-      acked-join s.j s.low s.seqs.now s.acks.now o end k in-loop (eq-eqb _ _ e) (lt-leb _ _ u) c.loop-q.invariant.1,
-    )
+      | then-p-j+else-low-get w ↦
+          let e : sender_of (entry o k) ≡ s.j = omega arith in
+          let same = ap (λ (p : ℕ). get_or s.seqs.now p 0) c.byte-p.ensures in
+          let u : get_or s.seqs.now (entry o k) 0 < s.low = omega arith in
+          subst (λ (r : Order). Here s.j s.low s.seqs.now s.acks.now end s.first r (k + 1)) (sym (w.o-is ∙ w.joined-o.ensures)) (
+            turn-joined s.j s.low s.seqs.now s.acks.now o end k in-loop c.loop-q.invariant.0,
+            acked-join s.j s.low s.seqs.now s.acks.now o end k in-loop (eq-eqb _ _ e) (lt-leb _ _ u) c.loop-q.invariant.1,
+          )
       | else-p-j w ↦
-    let d : sender_of (entry o k) ≢ s.j = omega arith in
-    subst (λ (r : Order). Here s.j s.low s.seqs.now s.acks.now end s.first r (k + 1)) (sym w.o-is) (
-      turn-passed end k o in-loop c.loop-q.invariant.0,
-      acked-pass s.j s.low s.seqs.now s.acks.now o end k in-loop (ne_eqb _ _ d) c.loop-q.invariant.1,
-    )
+          let d : sender_of (entry o k) ≢ s.j = omega arith in
+          subst (λ (r : Order). Here s.j s.low s.seqs.now s.acks.now end s.first r (k + 1)) (sym w.o-is) (
+            turn-passed end k o in-loop c.loop-q.invariant.0,
+            acked-pass s.j s.low s.seqs.now s.acks.now o end k in-loop (ne_eqb _ _ d) c.loop-q.invariant.1,
+          )
     ]
 
 pub returns : goal.returns

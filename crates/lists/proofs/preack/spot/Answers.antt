@@ -1,5 +1,4 @@
 use mathlib.Core.Path.{sym, ap, ◌∙◌}
-use Prim.Native.Nat.{◌-◌}
 use borrow.Author.Rules.{rules}
 use Rattle.lists.specs.Order.{entry}
 use Rattle.lists.specs.Settle.{precedes_at, before}

@@ -1,4 +1,3 @@
-use Prim.Native.Nat.{◌-◌}
 use Rattle.script.proofs.LinesLaws.{sought-start, sought-here, sought-more, sought-end}
 use Rattle.script.proofs.bytes.find.Goals as goal
 

@@ -1,5 +1,4 @@
 use native.Mathlib.Omega.{arith}
-use Prim.Native.Nat.{◌-◌}
 use Rattle.script.proofs.ItemsLaws.{counted_start, counted_stop, counted-more, counted-end}
 use Rattle.script.proofs.item.digits.Goals as goal
 

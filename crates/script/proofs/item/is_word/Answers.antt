@@ -1,4 +1,3 @@
-use Prim.Native.Nat.{◌-◌}
 use mathlib.Core.Path.{sym, ◌∙◌}
 use Rattle.script.proofs.ItemsLaws.{spelt-start, spelt-stop, spelt-more, spelt-end}
 use Rattle.script.proofs.item.is_word.Goals as goal

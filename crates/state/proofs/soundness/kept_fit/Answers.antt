@@ -1,12 +1,12 @@
 use mathlib.Core.Bool.{Bool}
 use mathlib.Core.List.{List}
 use mathlib.Core.Path.{◌≡◌, sym, ap, ◌∙◌}
-use Prim.Native.Nat.{ℕ, ◌+◌, ◌-◌, ◌*◌}
+use Prim.Native.Nat.{ℕ, ◌+◌, ◌*◌}
 use native.Mathlib.Nat.{sub-zero}
 use native.Mathlib.Omega.{arith}
 use lib.ListN.{get_or}
 use borrow.Author.Rules.{rules}
-use Rattle.rules.specs.Maps.{between, at, every}
+use Rattle.rules.specs.Maps.{between, every}
 use Rattle.tables.proofs.EveryLaws.{every_more, every-stop, every-end}
 use Rattle.tables.proofs.RowLaws.{at_next}
 use Rattle.state.specs.Soundness.{kept_lengths}

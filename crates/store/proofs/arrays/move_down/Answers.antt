@@ -1,4 +1,3 @@
-use Prim.Native.Nat.{◌-◌}
 use native.Mathlib.Omega.{arith}
 use Rattle.store.proofs.DownLaws.{none-moved, next-moved, past-moved, one-moved, all_moved}
 use Rattle.store.proofs.arrays.move_down.Goals as goal
@@ -11,7 +10,7 @@ pub loop-i-preserved : goal.loop-i-preserved
 loop-i-preserved c =
     let s = c.args in
     elim c.if-by-d.branch [
-      then-by-d w ↦ one-moved s.d.now s.by _ _ c.loop-i.invariant _ (omega arith) (next-moved _ _ _ _ c.loop-i.invariant) w.d-is
+      | then-by-d w ↦ one-moved s.d.now s.by _ _ c.loop-i.invariant _ (omega arith) (next-moved _ _ _ _ c.loop-i.invariant) w.d-is
       | else-by-d w ↦ one-moved s.d.now s.by _ _ c.loop-i.invariant _ (omega arith) (past-moved _ _ _ _ c.loop-i.invariant (omega arith)) w.d-is
     ]
 

@@ -1,4 +1,3 @@
-use Prim.Native.Nat.{◌-◌}
 use Rattle.rules.proofs.StoresLaws.{none-stored, one-stored, all-stored, past-stored}
 use Rattle.store.proofs.arrays.put_numbers.Goals as goal
 

@@ -1,4 +1,3 @@
-use native.Mathlib.Omega.{arith}
 use Rattle.rules.proofs.StoresLaws.{none-stored, one-stored, all-stored}
 use Rattle.frame.proofs.export.put_numbers.Goals as goal
 

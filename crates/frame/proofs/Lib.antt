@@ -7,7 +7,4 @@ pub mod Places
 pub mod Reading
 pub mod Outs
 pub mod Handing
-pub mod Held
-pub mod Walk
-pub mod ReaderCalls
 pub mod Determined

@@ -1,4 +1,4 @@
-// The reader for C hosts (include/co_frame.h).
+// The reader for C hosts (include/co_frame.h), which the crate frame_c exports.
 ghost use Rattle.std.specs.Prelude.{◌≡◌, [], ◌∷◌, ◌+◌, ◌≤◌, length};
 ghost use Rattle.std.proofs.lemmas.List.Edits.{sets};
 ghost use Rattle.frame.specs.Export.{handed, Exported};
@@ -57,8 +57,7 @@ fn hand_out(out: &mut [u64], f: Frame)
 }
 
 // Reads a frame: 0 and the 18 numbers; 3 where it is no frame; 16 where `numbers` has no room for 18.
-#[unsafe(no_mangle)]
-pub extern "C" fn co_read_frame(frame: &[u8], numbers: &mut [u64]) -> u32
+pub fn co_read_frame(frame: &[u8], numbers: &mut [u64]) -> u32
     ensures { Exported frame.now numbers.old result numbers.new }
 {
     let f = read(frame);

@@ -12,6 +12,7 @@ mod number;
 mod reader;
 pub mod table;
 
+pub use export::co_read_frame;
 use field::Field;
 use kind::{read_data, read_request, refused};
 use reader::{content, well_formed};

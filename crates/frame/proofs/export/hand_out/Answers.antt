@@ -4,7 +4,7 @@ use Rattle.frame.proofs.Handing.{hands_out}
 use Rattle.frame.proofs.export.hand_out.Goals as goal
 
 pub put_five-requires-2 : goal.put_five-requires-2
-put_five-requires-2 c = omega (arith, c.put_numbers.auto.0, c.put_five.auto.0, c.requires)
+put_five-requires-2 c = omega (arith, c.put_numbers.auto.out, c.put_five.auto.out, c.requires)
 
 pub returns : goal.returns
 returns c =

@@ -1,13 +1,8 @@
-use native.Mathlib.Omega.{arith}
-use Prim.Native.Nat.{◌-◌}
 use Rattle.rules.proofs.StoresLaws.{none-stored, one-stored, all-stored}
 use Rattle.frame.proofs.export.put_numbers.Goals as goal
 
 pub loop-i-init : goal.loop-i-init
 loop-i-init c = none-stored _ _ _
-
-pub overflow_cast-out : goal.overflow_cast-out
-overflow_cast-out c = omega (arith, c.shared_slice_known-1.given c.loop-i.i)
 
 pub loop-i-preserved : goal.loop-i-preserved
 loop-i-preserved c = one-stored _ _ _ _ _ c.loop-i.invariant c.loop-i-test.true

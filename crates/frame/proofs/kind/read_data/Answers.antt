@@ -1,13 +1,9 @@
 -- `read_data` meets its contract: one law of `Outs` for each way out.
 use native.Mathlib.Omega.{arith}
-use Prim.Native.Nat.{◌+◌, ◌*◌, ◌≤◌}
 use mathlib.Core.Path.{◌∙◌}
-use lib.ListN.{length}
+use borrow.Author.Tests.{not-true, not-false}
 use Rattle.frame.proofs.Outs.{data-acks, data-room, data-zero-ack, seq-out, a-message}
 use Rattle.frame.proofs.kind.read_data.Goals as goal
-
-room : (c : tie.After-ack-field) → 37 + 4 * c.ack-field.result.n ≤ length c.before.before.args.s.now
-room c = data-room _ c.before.before.requires.0 _ c.ack-field.ensures
 
 pub ack_field-acks-requires : goal.ack_field-acks-requires
 ack_field-acks-requires c = data-acks _ c.requires.0
@@ -15,10 +11,10 @@ ack_field-acks-requires c = data-acks _ c.requires.0
 pub returns-then-not-acks : goal.returns-then-not-acks
 returns-then-not-acks c =
     let pre = c.requires in
-    c.refused.ensures ∙ data-zero-ack _ pre.0 pre.1 pre.2 _ c.ack_field-acks.ensures (c.if-not-acks.true)
+    c.refused.ensures ∙ data-zero-ack _ pre.0 pre.1 pre.2 _ c.ack_field-acks.ensures (not-true _ c.if-not-acks.true)
 
 pub number_at-seq-requires : goal.number_at-seq-requires
-number_at-seq-requires c = omega (arith, room c.before.before)
+number_at-seq-requires c = omega (arith, data-room _ c.requires.0 _ c.ack_field-acks.ensures)
 
 pub returns-then-seq-eq0 : goal.returns-then-seq-eq0
 returns-then-seq-eq0 c =
@@ -31,28 +27,28 @@ returns-then-seq c =
     c.refused-then-seq.ensures ∙ seq-out _ pre.0 pre.1 pre.2 _ c.ack_field-acks.ensures _ c.number_at-seq.ensures (λ low high. omega arith)
 
 pub overflow_mul-start : goal.overflow_mul-start
-overflow_mul-start c = omega (arith, room c.before.before.before.before.before)
+overflow_mul-start c = omega (arith, data-room _ c.requires.0 _ c.ack_field-acks.ensures)
 
 pub overflow_add-start : goal.overflow_add-start
-overflow_add-start c = omega (arith, room c.before.before.before.before.before)
+overflow_add-start c = omega (arith, data-room _ c.requires.0 _ c.ack_field-acks.ensures)
 
 pub common-f-requires : goal.common-f-requires
-common-f-requires c = omega (arith, room c.before.before.before.before.before)
+common-f-requires c = omega (arith, data-room _ c.requires.0 _ c.ack_field-acks.ensures)
 
 pub overflow_mul-n : goal.overflow_mul-n
-overflow_mul-n c = omega (arith, room c.before.before.before.before.before.before)
+overflow_mul-n c = omega (arith, data-room _ c.requires.0 _ c.ack_field-acks.ensures)
 
 pub overflow_add-n : goal.overflow_add-n
-overflow_add-n c = omega (arith, room c.before.before.before.before.before.before)
+overflow_add-n c = omega (arith, data-room _ c.requires.0 _ c.ack_field-acks.ensures)
 
 pub number_at-requires : goal.number_at-requires
-number_at-requires c = omega (arith, room c.before.before.before.before.before.before)
+number_at-requires c = omega (arith, data-room _ c.requires.0 _ c.ack_field-acks.ensures)
 
 pub overflow_sub-f : goal.overflow_sub-f
-overflow_sub-f c = omega (arith, room c.before.before.before.before.before.before.before)
+overflow_sub-f c = omega (arith, data-room _ c.requires.0 _ c.ack_field-acks.ensures)
 
 pub returns : goal.returns
 returns c =
     let pre = c.requires in
-    a-message _ pre.0 pre.1 pre.2 _ c.ack_field-acks.ensures _ c.number_at-seq.ensures (c.if-not-acks.false) (omega arith) (omega arith)
+    a-message _ pre.0 pre.1 pre.2 _ c.ack_field-acks.ensures _ c.number_at-seq.ensures (not-false _ c.if-not-acks.false) (omega arith) (omega arith)
     _ c.common-f.ensures _ c.number_at.ensures

@@ -1,5 +1,4 @@
 use native.Mathlib.Omega.{arith}
-use Prim.Native.Nat.{◌-◌}
 use mathlib.Core.Path.{refl, sym, ◌∙◌}
 use Rattle.frame.proofs.Numbers.{zero-here, no-zero-here, no-zero-left}
 use Rattle.frame.proofs.number.no_zero.Goals as goal

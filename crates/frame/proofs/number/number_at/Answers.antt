@@ -1,5 +1,4 @@
 use native.Mathlib.Omega.{arith}
-use Prim.Native.Nat.{◌-◌}
 use Rattle.frame.proofs.Numbers.{none-summed, small-yet, one-summed, all-summed}
 use Rattle.frame.proofs.number.number_at.Goals as goal
 

@@ -32,6 +32,7 @@ module _ {A : Type 0} where
   all_right P (x ∷ l) r h = all_right P l r h.1
 
   pub all-mem : (P : A → Type 0) (x : A) (l : List A) → Mem x l → All P l → P x
+  all-mem P x [] m h = elim m [ ]
   all-mem P x (y ∷ l) (Mem.head e) h = subst P (sym e) h.0
   all-mem P x (y ∷ l) (Mem.tail m) h = all-mem P x l m h.1
 
@@ -50,14 +51,17 @@ module _ {A : Type 0} where
   pairs-left P (x ∷ l) r h = (all_left (P x) l r h.0, pairs-left P l r h.1)
 
   pub pairs-ahead : (P : A → A → Type 0) (x y : A) (l : List A) → Ahead x y l → Pairs P l → P x y
+  pairs-ahead P x y [] a h = elim a [ ]
   pairs-ahead P x y (z ∷ l) (here e m) h = subst (λ a. P a y) (sym e) (all-mem (P z) y l m h.0)
   pairs-ahead P x y (z ∷ l) (there a) h = pairs-ahead P x y l a h.1
 
   pub ahead-front : (x y : A) (l : List A) → Ahead x y l → Mem x l
+  ahead-front x y [] a = elim a [ ]
   ahead-front x y (z ∷ l) (here e m) = Mem.head e
   ahead-front x y (z ∷ l) (there a) = Mem.tail (ahead-front x y l a)
 
   pub ahead-back : (x y : A) (l : List A) → Ahead x y l → Mem y l
+  ahead-back x y [] a = elim a [ ]
   ahead-back x y (z ∷ l) (here e m) = Mem.tail m
   ahead-back x y (z ∷ l) (there a) = Mem.tail (ahead-back x y l a)
 
@@ -74,10 +78,12 @@ module _ {A : Type 0} (d : A) where
   ahead-get_or (z ∷ l) (suc x) (suc y) h k = there (ahead-get_or l x y (omega arith) (omega arith))
 
 pub mem-map : {A B : Type 0} (f : A → B) (x : A) (l : List A) → Mem x l → Mem (f x) (map f l)
+mem-map {A = A} {B = B} f x [] m = elim m [ ]
 mem-map f x (y ∷ l) (Mem.head e) = Mem.head (ap f e)
 mem-map f x (y ∷ l) (Mem.tail m) = Mem.tail (mem-map f x l m)
 
 -- what a mapped list has is the image of what the list has
 pub mem-unmap : {A B : Type 0} (f : A → B) (y : B) (l : List A) → Mem y (map f l) → (x : A) × (f x ≡ y) × Mem x l
+mem-unmap {A = A} {B = B} f y [] m = elim m [ ]
 mem-unmap f y (x ∷ l) (Mem.head e) = (x, sym e, Mem.head refl)
 mem-unmap f y (x ∷ l) (Mem.tail m) = let r = mem-unmap f y l m in (r.0, r.1, Mem.tail r.2)

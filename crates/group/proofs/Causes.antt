@@ -22,6 +22,7 @@ use Rattle.group.proofs.Logs.{Of, Has, Log, tells-back, tells-forth}
 
 -- what is sent is in the log
 sent-mem : (m : Message) (l : List Did) → Mem m (sent_in l) → (f : List ℕ) × Mem (sent m f) l
+sent-mem m [] h = elim h [ ]
 sent-mem m (sent p f ∷ l) h = go (Memᴰ.append_cases (sent_in l) h) (λ x. sent-mem m l x)
   where
     go : Mem m (sent_in l) ⊎ Mem m (p ∷ []) → (Mem m (sent_in l) → (x : List ℕ) × Mem (sent m x) l) → (x : List ℕ) × Mem (sent m x) (sent p f ∷ l)

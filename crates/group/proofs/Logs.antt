@@ -102,11 +102,13 @@ tells_at c i m f e l q t = subst (λ (x : Did). TellsIfSent c i x l) (sym q) t.0
 
 pub tells-back : (c : Course) (i : ℕ) (m : Message) (f : List ℕ) (e : Did) (l : List Did) → AllTell c i l → Ahead (sent m f) e l
     → (about e).seq < ack_of m (about e).src
+tells-back c i m f e [] t a = elim a [ ]
 tells-back c i m f e (x ∷ l) t (here q h) = all-mem (λ d. (about d).seq < ack_of m (about d).src) e l h (tells_at c i m f x l q t).back
 tells-back c i m f e (x ∷ l) t (there a) = tells-back c i m f e l t.1 a
 
 pub tells-forth : (c : Course) (i : ℕ) (m : Message) (f : List ℕ) (l : List Did) → AllTell c i l → Mem (sent m f) l
     → (k s : ℕ) → Index c.n k → c.first k ≤ s → s < ack_of m k → (e : Did) × (about e ≡ c.msg k s) × Ahead (sent m f) e l
+tells-forth c i m f [] t a k s kn low h = elim a [ ]
 tells-forth c i m f (x ∷ l) t (Mem.head q) k s kn low h =
     let r = mem-unmap about (c.msg k s) l ((tells_at c i m f x l q t).forth k s kn low h) in
     (r.0, r.1, here q r.2)
@@ -116,5 +118,6 @@ tells-forth c i m f (x ∷ l) t (Mem.tail a) k s kn low h =
 
 -- the sender and the frame of a message that a log says was sent
 pub tells-sent : (c : Course) (i : ℕ) (m : Message) (f : List ℕ) (l : List Did) → AllTell c i l → Mem (sent m f) l → (m.src ≡ i) × (f ≡ encode (message m))
+tells-sent c i m f [] t a = elim a [ ]
 tells-sent c i m f (x ∷ l) t (Mem.head q) = let r = tells_at c i m f x l q t in (r.src, r.frame)
 tells-sent c i m f (x ∷ l) t (Mem.tail a) = tells-sent c i m f l t.1 a

@@ -65,6 +65,7 @@ mem-from q k (p ∷ l) m = mem-cond (eqb p.src k) q p (from k l) l m (λ x. mem-
 
 pub from-mem : (q : Place) (k : ℕ) (l : List Place) → q.src ≡ k → Mem q l → Mem q (from k l)
 unfolding from
+from-mem q k [] e m = elim m [ ]
 from-mem q k (p ∷ l) e (Mem.head x) = go (eq? p.src k)
   where
     go : {t : Bool} → Eq? p.src k t → Mem q (cond t (p ∷ from k l) (from k l))
@@ -78,6 +79,7 @@ from-mem q k (p ∷ l) e (Mem.tail x) = go (eqb p.src k) (from-mem q k l e x)
 
 pub from-ahead : (p q : Place) (k : ℕ) (l : List Place) → p.src ≡ k → q.src ≡ k → Ahead p q l → Ahead p q (from k l)
 unfolding from
+from-ahead p q k [] a b x = elim x [ ]
 from-ahead p q k (z ∷ l) a b (here e m) = go (eq? z.src k)
   where
     go : {t : Bool} → Eq? z.src k t → Ahead p q (cond t (z ∷ from k l) (from k l))
@@ -117,6 +119,7 @@ upward-below a (p ∷ l) b h =
     )
 
 pub upward-ahead : (a : ℕ) (l : List Place) (b : ℕ) (p q : Place) → Upward a l b → Ahead p q l → p.seq < q.seq
+upward-ahead a [] b p q h x = elim x [ ]
 upward-ahead a (z ∷ l) b p q h (here e m) =
     omega (arith, ap (λ (x : Place). x.seq) e, h.0, all-mem (λ x. (suc a ≤ x.seq) × (x.seq < b)) q l m (upward-below (suc a) l b h.1))
 upward-ahead a (z ∷ l) b p q h (there x) = upward-ahead (suc a) l b p q h.1 x

@@ -8,8 +8,9 @@ mod reading;
 ghost use Rattle.bench.specs.Reading.{Ready};
 ghost use Rattle.bench.specs.Runs.{Turns};
 
-use libc::{STDIN_FILENO, STDOUT_FILENO};
 use reading::Bench;
+use std::io;
+use std::io::{Read, Write};
 
 // How many bytes are read at once.
 const PART: usize = 64;
@@ -22,17 +23,16 @@ struct Next {
 }
 
 // Reads a part of the input, and prints what it prints. Where the input has ended, it prints the end.
-fn turn(b: Bench) -> Next
+fn turn(rt: &HostRuntime, b: Bench) -> Next
     requires { Ready b }
     ensures { Turns b result }
 {
     let mut part = [0u8; PART];
     let mut out = [0u8; Bench::LONGEST * PART];
-    let got = libc::read(STDIN_FILENO, &mut part);
-    let n = io::count(got, &part);
+    let n = rt.stdin().read(&mut part).unwrap_or(0);
     if n == 0 {
         let len = b.end(&mut out);
-        io::write_all(STDOUT_FILENO, &out[..len]);
+        let _ = rt.stdout().write_all(&out[..len]);
         return Next {
             bench: b,
             more: false,
@@ -40,7 +40,7 @@ fn turn(b: Bench) -> Next
     }
     let t = b.feed(&part[..n], &mut out);
     let len = t.len;
-    let is_written = io::write_all(STDOUT_FILENO, &out[..len]);
+    let is_written = rt.stdout().write_all(&out[..len]).is_ok();
     let next = t.bench;
     Next {
         bench: next,
@@ -49,16 +49,17 @@ fn turn(b: Bench) -> Next
 }
 
 // A proved loop has to end, and nothing says that the input does: the count is one that no run uses up.
-fn main() {
+fn main(rt: HostRuntime) -> io::Result<()> {
     let mut b = Bench::new();
     let mut turns = u64::MAX;
     while 0 < turns {
-        let t = turn(b);
+        let t = turn(&rt, b);
         let next = t.bench;
         b = next;
         if !t.more {
-            return;
+            return Ok(());
         }
         turns -= 1;
     }
+    Ok(())
 }

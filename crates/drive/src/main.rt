@@ -8,6 +8,8 @@ ghost use Rattle.drive.specs.Run.{mixed, with_bytes, with_message, shown, visit_
 
 use script::{Value, number};
 use state::Opening;
+use std::io;
+use std::io::Read;
 use unit::Unit;
 
 // The sum so far, and the unit then.
@@ -146,28 +148,27 @@ fn run(n: u8, w: u8, messages: u32) -> u32
     sum
 }
 
-fn main() {
+fn main(rt: HostRuntime) -> io::Result<()> {
     let mut buffer = [0u8; 16];
-    let got = libc::read(0, &mut buffer);
-    let end = io::count(got, &buffer);
+    let end = rt.stdin().read(&mut buffer).unwrap_or(0);
     if end < 5 {
-        return;
+        return Ok(());
     }
     let Value::Is(n) = number(&buffer[0..1]) else {
-        return;
+        return Ok(());
     };
     let Value::Is(w) = number(&buffer[2..3]) else {
-        return;
+        return Ok(());
     };
     let Value::Is(messages) = number(&buffer[4..end]) else {
-        return;
+        return Ok(());
     };
     if n < 1 {
-        return;
+        return Ok(());
     }
     if 8 < n {
-        return;
+        return Ok(());
     }
-    io::print_decimal(1, run(n as u8, (w % 256) as u8, messages) as u64);
-    io::write_all(1, b"\n");
+    let sum = run(n as u8, (w % 256) as u8, messages);
+    println!(rt; "{}", sum)
 }

@@ -10,9 +10,10 @@ ghost use Rattle.std.specs.Prelude.{◌≡◌, ◌+◌, ◌*◌, ◌≤◌, leng
 ghost use Rattle.handing.specs.Handing.{Gives};
 ghost use Rattle.replay.specs.Run.{closed_unit, blank, answered_of, run_of};
 
-use libc::{STDIN_FILENO, STDOUT_FILENO};
 use record::head;
 use state::Opening;
+use std::io;
+use std::io::{Read, Write};
 use tables;
 use unit::Unit;
 
@@ -84,24 +85,40 @@ fn run(
     units
 }
 
+// Reads until the bytes are full, the input ends or a read fails, and says how many bytes stand at their start then.
+fn read_full(rt: &HostRuntime, bytes: &mut [u8]) -> usize
+    ensures { result ≤ length bytes.new }
+{
+    let mut done = 0;
+    while done < bytes.len() {
+        let n = rt.stdin().read(&mut bytes[done..]).unwrap_or(0);
+        if n == 0 {
+            break;
+        }
+        done += n;
+    }
+    done
+}
+
 // A proved loop has to end, and nothing says that the input does: the count is one that no run uses up.
-fn main() {
+fn main(rt: HostRuntime) -> io::Result<()> {
     let mut units = closed();
     let mut input = [0u8; CALL * PART];
     let mut out = [0u8; REPLY * PART];
     let mut turns = u64::MAX;
     while 0 < turns {
-        let records = io::read_full(STDIN_FILENO, &mut input) / CALL;
+        let records = read_full(&rt, &mut input) / CALL;
         let next = run(units, &input, records, &mut out);
         units = next;
         let end = REPLY * records;
-        let is_written = io::write_all(STDOUT_FILENO, &out[..end]);
+        let is_written = rt.stdout().write_all(&out[..end]).is_ok();
         if !is_written {
-            return;
+            return Ok(());
         }
         if records < PART {
-            return;
+            return Ok(());
         }
         turns -= 1;
     }
+    Ok(())
 }

@@ -1,6 +1,6 @@
 -- Reading undoes writing, on the code: what a writer answers 0 to, the reader reads back.
 use mathlib.Core.Bool.{Bool, true, not}
-use mathlib.Core.List.{List, ◌∷◌}
+use mathlib.Core.List.{List, [], ◌∷◌}
 use mathlib.Core.Option.{some}
 use mathlib.Core.Path.{◌≡◌, refl, sym, ap, ◌∙◌}
 use Prim.Native.Nat.{ℕ, ◌+◌, ◌*◌}
@@ -24,6 +24,7 @@ abbrev refusing : List Check → Bool
 refusing checks = all (λ (c : Check). not (eqb c.answer 0)) checks
 
 not-0 : (a : ℕ) (checks : List Check) → Refused a checks → refusing checks ≡ true → 0 ≡ a → ⊥
+not-0 a [] x h z = elim x [ ]
 not-0 a (c ∷ checks) (now x e) h z =
     eqb-false c.answer 0 (test-false _ (and_both (not (eqb c.answer 0)) (refusing checks) h).0) (e ∙ sym z)
 not-0 a (c ∷ checks) (later x r) h z = not-0 a checks r (and_both (not (eqb c.answer 0)) (refusing checks) h).1 z

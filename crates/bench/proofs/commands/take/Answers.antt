@@ -1,0 +1,39 @@
+-- `commands::take` meets its contract: a refusal prints its answer, a message its sender, number and word.
+use Prim.Native.Nat.{◌≤◌}
+use mathlib.Core.Path.{refl, sym}
+use native.Mathlib.Omega.{arith}
+use lib.Seq.{length-take-le}
+use borrow.Author.Rules.{rules}
+use Rattle.script.specs.Desk.{lent}
+use Rattle.bench.proofs.Shape.{shaped}
+use Rattle.bench.proofs.LengthLaws.{taken-len}
+use Rattle.bench.proofs.ActLaws.{did-acts, refused_did, took-did}
+use Rattle.bench.proofs.PrintLaws.{answer-short, taken-short}
+use Rattle.bench.proofs.commands.take.Goals as goal
+
+-- the word fits
+word-short : (c : tie.After-take) → c.take.result.len ≤ 48
+word-short c = rw c.take.ensures.exact (taken-len _ (lent 48))
+
+pub returns-then-t-ne0 : goal.returns-then-t-ne0
+returns-then-t-ne0 c =
+    let d = c.args.d in
+    let t = c.take-t in
+    did-acts {line = c.args.line}
+    (refused_did d c.args.u c.requires.0 (shaped d _ start.well-formed.0.1.1).units t.result _ t.ensures c.if-t-ne0.true) refl
+    (answer-short c.args.line t.result.answer (search rules) (search rules)) c.requires.1 c.answer_line.ensures
+
+pub slice_bounds-word-end : goal.slice_bounds-word-end
+slice_bounds-word-end c = omega (arith, word-short c.before.before.before.before.before.before, c.word-2-1.given)
+
+pub slice_bounds-taken_line-end : goal.slice_bounds-taken_line-end
+slice_bounds-taken_line-end c = sym (length-take-le _ _ (array-share-prefix-word c.before))
+
+pub returns : goal.returns
+returns c =
+    let d = c.args.d in
+    let t = c.take-t in
+    did-acts {line = c.args.line}
+    (took-did d c.args.u c.requires.0 (shaped d _ start.well-formed.0.1.1).units t.result _ t.ensures c.if-t-ne0.false) refl
+    (taken-short c.args.line t.result.src t.result.seq t.result.len _ (search rules) (search rules) (search rules) (word-short c.before.before.before.before.before.before.before.before.before.before))
+    c.requires.1 c.taken_line.ensures

@@ -1,0 +1,10 @@
+-- `commands::unknown` meets its contract: nothing is done, and `?` is printed.
+use mathlib.Core.Path.{refl}
+use borrow.Author.Rules.{rules}
+use Rattle.bench.proofs.ActLaws.{did-acts, ignored-did}
+use Rattle.bench.proofs.PrintLaws.{unknown-short}
+use Rattle.bench.proofs.commands.unknown.Goals as goal
+
+pub returns : goal.returns
+returns c =
+    did-acts (ignored-did _ c.requires.0) refl (unknown-short _ (search rules)) c.requires.1 c.unknown_line.ensures

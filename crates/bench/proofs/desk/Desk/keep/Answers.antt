@@ -1,0 +1,12 @@
+-- `Desk::keep` meets its contract: a refusal keeps nothing, and a frame goes into the next slot.
+use borrow.Author.Tests.{eq-eqb, ne_eqb}
+use Rattle.bench.specs.Desk.{kept_in}
+use Rattle.bench.proofs.desk.Desk.keep.Goals as goal
+
+pub returns-then-answer-ne0 : goal.returns-then-answer-ne0
+unfolding kept_in
+returns-then-answer-ne0 c = rw (ne_eqb c.args.answer 0 c.if-answer-ne0.true)
+
+pub returns : goal.returns
+unfolding kept_in
+returns c = rw (eq-eqb c.args.answer 0 c.if-answer-ne0.false, c.put_frame.ensures)

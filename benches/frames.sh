@@ -9,7 +9,7 @@ cd "$(dirname "$0")/.."
 
 rounds=${1:-1000000}
 
-rt check framebench >/dev/null
+proved framebench
 cargo build --release --offline --quiet --manifest-path second/Cargo.toml
 
 work=$(mktemp -d)

@@ -11,7 +11,7 @@ cd "$(dirname "$0")/.."
 # for n = 8; fewer units get more messages, so that the runs take as long
 messages=${1:-20000}
 
-rt check drive >/dev/null
+proved drive
 # the engine tests soundness in each call, as 01 asks; `trusting` leaves that test out
 build="cargo build --release --offline --quiet --manifest-path second/Cargo.toml --bin drive"
 $build

@@ -1,7 +1,7 @@
 /*
  * Reading frames of the CO protocol.
  *
- * Link with libframe.a (`rt staticlib frame` writes it to target/staticlib/). The function needs no runtime, keeps no
+ * Link with libframe.a (`./archive` writes it to target/staticlib/). The function needs no runtime, keeps no
  * state, allocates nothing and can be called from any thread.
  */
 #ifndef CO_FRAME_H

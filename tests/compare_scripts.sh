@@ -4,6 +4,8 @@ set -eu
 cd "$(dirname "$0")/.."
 . tests/lib/x86.sh
 
+proved bench
+
 work=$(mktemp -d)
 trap 'rm -rf "$work"' EXIT
 

@@ -1,21 +1,24 @@
 # Programs and archives that `rt` builds are for x86-64. On another processor programs run under the kit's emulator, and C
 # programs over the archives are compiled by clang against the kit's own C library; the sanitizers have no runtime there.
 
-kit=$(dirname "$(dirname "$(rt doc)")")
+kit=$(dirname "$(rt doc)")
 tools=$kit/on/$(uname -m)/toolchain
 
 native() {
     [ "$(uname -m)" = x86_64 ]
 }
 
-# proved NAME: a program, proved and built; where it is not proved, says why
+# proved NAME: a program, proved and built as target/bin/NAME; where it is not proved, says why
 proved() {
     local log status=0
     log=$(mktemp)
-    rt check "$1" >"$log" 2>&1 || status=$?
+    # `rt run` is what builds a program: it is run once, on no input
+    (cd "crates/$1" && rt run) >"$log" 2>&1 </dev/null || status=$?
     [ "$status" -eq 0 ] || cat "$log" >&2
     rm "$log"
-    return "$status"
+    [ "$status" -eq 0 ] || return "$status"
+    mkdir -p target/bin
+    cp "crates/$1/out/$1" "target/bin/$1"
 }
 
 # runnable NAME DIR: prints a path that runs target/bin/NAME; on another processor it is a script in DIR
@@ -29,12 +32,12 @@ runnable() {
     echo "$program"
 }
 
-# archive NAME: the archive of a crate, built unless it is newer than every source; prints its path
+# archive NAME: the archive for C hosts of a crate, which the crate NAME_c exports; prints its path
 archive() {
     local lib=target/staticlib/lib$1.a
-    if [ ! -e "$lib" ] || [ -n "$(find crates crates.txt -newer "$lib" -print -quit)" ]; then
-        rt staticlib "$1" >/dev/null || return 1
-    fi
+    (cd "crates/$1_c" && rt lib) >/dev/null || return 1
+    mkdir -p target/staticlib
+    cp "crates/$1_c/out/lib$1_c.a" "$lib"
     echo "$lib"
 }
 

@@ -10,6 +10,8 @@ ghost use Rattle.framebench.specs.Rounds.{message_of, sum_of, total_of};
 use frame::{Frame, read};
 use framewrite::write_data;
 use script::{Value, number};
+use std::io;
+use std::io::Read;
 use std::num::wrapping_add_u32;
 
 // CID, SRC, SEQ, n, the first ACK, BUF and the length of the data, added modulo 2^32.
@@ -59,13 +61,11 @@ fn total(rounds: u32) -> u32
     total
 }
 
-fn main() {
+fn main(rt: HostRuntime) -> io::Result<()> {
     let mut buffer = [0u8; 16];
-    let got = libc::read(0, &mut buffer);
-    let n = io::count(got, &buffer);
+    let n = rt.stdin().read(&mut buffer)?;
     let Value::Is(rounds) = number(&buffer[..n]) else {
-        return;
+        return Ok(());
     };
-    io::print_decimal(1, total(rounds) as u64);
-    io::write_all(1, b"\n");
+    println!(rt; "{}", total(rounds))
 }

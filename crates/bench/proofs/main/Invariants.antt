@@ -3,7 +3,7 @@ use Rattle.bench.specs.Reading.{Ready}
 use Rattle.bench.proofs.main.Given as goal
 
 abbrev pub invariant-loop-turns : goal.invariant-loop-turns
-invariant-loop-turns l = Ready l.initial.turns
+invariant-loop-turns l = Ready l.b
 
 abbrev pub decreases-loop-turns : goal.decreases-loop-turns
-decreases-loop-turns l = l.b
+decreases-loop-turns l = l.turns

@@ -14,14 +14,14 @@ overflow_add-to c = omega (arith, c.requires.0.unit.fits.lengths (c.args.f - 1) 
 
 pub slice_bounds-arrive-end : goal.slice_bounds-arrive-end
 slice_bounds-arrive-end c =
-    let long = (shaped c.args.d _ start.well-formed.0.1.1).store in
+    let long = (shaped c.args.d _ c.well_formed.0.1.1).store in
     omega (arith, long, c.requires.0.unit.fits.lengths (c.args.f - 1) (omega arith))
 
 pub returns : goal.returns
 returns c =
     let d = c.args.d in
     let H = c.requires.0 in
-    let long = shaped d _ start.well-formed.0.1.1 in
+    let long = shaped d _ c.well_formed.0.1.1 in
     let a = c.arrive-a in
     let A = rw (frame-slice d H.unit.fits long.store (c.args.f - 1) (omega arith)) at a.ensures in
     did-acts {line = c.args.line} (arrived-did d c.args.u H.unit long.units c.args.f H.low H.high a.result A) refl

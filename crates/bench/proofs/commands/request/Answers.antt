@@ -8,9 +8,9 @@ use Rattle.bench.proofs.commands.request.Goals as goal
 pub returns : goal.returns
 returns c =
     let d = c.args.d in
-    let long = shaped d _ start.well-formed.0.1.1 in
+    let long = shaped d _ c.well_formed.0.1.1 in
     let h = c.request-h in
-    let A = rw c.before.before.before.before.before.before.before.before.before.number_of_lem.ensures at h.ensures in
+    let A = rw c.number_of.ensures at h.ensures in
     did-acts {line = c.args.line}
-    (asked-did d c.args.u c.requires.0.unit long.units c.requires.0.room long.store long.lens c.args.k h.result _ c.frame-2-1.given A)
+    (asked-did d c.args.u c.requires.0.unit long.units c.requires.0.room long.store long.lens c.args.k h.result _ (search rules) A)
     c.keep.ensures (answer-short c.args.line h.result.answer (search rules) (search rules)) c.requires.1 c.answer_line.ensures

@@ -6,4 +6,4 @@ use Rattle.bench.proofs.desk.opened_unit.Goals as goal
 
 pub returns : goal.returns
 unfolding started_unit
-returns c = ap (λ (o : Opened). o.unit) c.before.«open».ensures.exact
+returns c = ap (λ (o : Opened). o.unit) c.open-o.ensures.exact

@@ -17,12 +17,8 @@ returns-then-number-ge-OVER c = over_reads _ c.new.ensures c.requires.0 c.if-num
 
 pub slice_bounds-bytes-end : goal.slice_bounds-bytes-end
 slice_bounds-bytes-end c =
-    let g = c.before.before.before.before.before.before.before.before.well-formed in
     let long : length c.args.self.line.bytes ≡ 80 = search rules in
     omega (arith, long, c.size-size.ensures.1)
-
-pub slice_bounds-act-end : goal.slice_bounds-act-end
-slice_bounds-act-end c = sym (length-take-le _ _ (array-share-prefix-bytes c.before))
 
 pub act-done-requires : goal.act-done-requires
 act-done-requires c =

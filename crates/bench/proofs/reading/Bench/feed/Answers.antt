@@ -18,7 +18,9 @@ slice_bounds-end_line-count c =
     omega (arith, f.short, f.long, c.loop-i-test.true, c.requires.1)
 
 pub slice_bounds-end_line-start : goal.slice_bounds-end_line-start
-slice_bounds-end_line-start c = sub-end-line c
+slice_bounds-end_line-start c =
+    let f = c.loop-i.invariant in
+    omega (arith, f.short, f.long, c.loop-i-test.true, c.requires.1)
 
 pub end_line-t-requires : goal.end_line-t-requires
 end_line-t-requires c =
@@ -34,7 +36,7 @@ pub loop-i-preserved : goal.loop-i-preserved
 loop-i-preserved c =
     let l = c.loop-i in
     let e = c.end_line-t in
-    fed-line _ _ _ l.b _ _ _ l.invariant c.loop-i-test.true c.if-x-ne10.false c.requires.1 e.result e.new.1.0 e.ensures
+    fed-line _ _ _ l.b _ _ _ l.invariant c.loop-i-test.true c.if-x-ne10.false c.requires.1 e.result e.new.out e.ensures
 
 pub shape_of-out : goal.shape_of-out
 shape_of-out c = c.loop-i.invariant.long

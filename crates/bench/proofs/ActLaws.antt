@@ -7,7 +7,7 @@ use native.Mathlib.Omega.{arith}
 use native.Mathlib.Nat.{le_trans}
 use lib.ListN.{length, take}
 use borrow.Author.Tests.{eq-eqb, ne_eqb}
-use Rattle.rules.specs.Maps.{between, at}
+use Rattle.rules.specs.Maps.{between}
 use Rattle.rules.specs.State.{State}
 use Rattle.rules.specs.Calls.{send, arrive, make_request}
 use Rattle.rules.specs.Calls as rules

@@ -9,7 +9,7 @@ use native.Mathlib.Numerals.{add-one}
 use lib.Dec.{leb, ltb}
 use borrow.Author.Tests.{lt-ltb, le-ltb, eq-eqb, ne_eqb, leb-true}
 use Rattle.rules.specs.Sound.{ranges_fit}
-use Rattle.rules.proofs.MapsLaws.{and_left, and_right, Lt?, lt, ge, lt?, same}
+use Rattle.rules.proofs.MapsLaws.{and_left, and_right, Lt?, lt, ge, lt?}
 use Rattle.rules.proofs.SoundLaws.{ranges_fit-facts}
 use Rattle.script.specs.Items.{Command, groups, sends, arrives, requests, takes, unreadable}
 use Rattle.script.specs.Desk.{act}

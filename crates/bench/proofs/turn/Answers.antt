@@ -1,8 +1,4 @@
 -- `turn` meets its contract: some part is read, or the input has ended.
-use mathlib.Core.Path.{sym}
-use native.Mathlib.Omega.{arith}
-use lib.ListN.{length-take}
-use lib.Seq.{length-take-le}
 use Rattle.bench.proofs.RunLaws.{none-turns, read-turns}
 use Rattle.bench.proofs.turn.Goals as goal
 

@@ -1,8 +1,7 @@
 -- `Bench::end_line` meets its contract: the first line, a later one, and one that is not read any more.
 use Prim.Native.Nat.{ℕ}
-use mathlib.Core.Path.{◌≡◌, sym, ap, ◌∙◌}
+use mathlib.Core.Path.{◌≡◌, ap, ◌∙◌}
 use native.Mathlib.Omega.{arith}
-use lib.Seq.{length-take-le}
 use lib.ListN.{length, take}
 use borrow.Author.Rules.{rules}
 use Rattle.script.proofs.GatheredLaws.{take-length-take}

@@ -1,4 +1,3 @@
-use Prim.Native.Nat.{◌-◌}
 use native.Mathlib.Omega.{arith}
 use Rattle.bench.proofs.FeedLaws.{fed-none, room-left, fed-push, fed-line, fed-all}
 use Rattle.bench.proofs.reading.Bench.feed.Goals as goal

@@ -14,6 +14,6 @@ use Rattle.replay.proofs.closed.Goals as goal
 pub returns : goal.returns
 unfolding opened_of state.opened_of open_checks ranges_fit between
 returns c =
-    let o = c.before.«open» in
+    let o = c.open-none in
     let refused : o.result.answer ≡ 2 = ap (λ (x : Opened). x.answer) o.ensures.exact in
     ap (λ (u : Unit). replicate 8 u) (o.ensures.closed (λ e. omega arith))

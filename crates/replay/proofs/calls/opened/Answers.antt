@@ -6,7 +6,7 @@ pub returns : goal.returns
 unfolding open_made
 returns c =
     rw (
-      c.before.«open».ensures.exact,
+      c.open-o.ensures.exact,
       c.number_at.ensures,
       c.number_at-2.ensures,
       c.number_at-3.ensures,

@@ -1,13 +1,13 @@
 use native.Mathlib.Omega.{arith}
 use mathlib.Core.Path.{◌≡◌, ap, ◌∙◌}
-use Prim.Native.Nat.{suc, ◌+◌, ◌-◌}
+use Prim.Native.Nat.{suc, ◌+◌}
 use lib.ListN.{replicate}
 use Rattle.unit.specs.declared.Opened.{Opened}
 use Rattle.drive.specs.Run.{opened_units}
 use Rattle.drive.proofs.opened.Goals as goal
 
 pub loop-k-init : goal.loop-k-init
-loop-k-init c = (omega arith, ap (λ (o : Opened). replicate 8 o.unit) c.before.«open».ensures.exact)
+loop-k-init c = (omega arith, ap (λ (o : Opened). replicate 8 o.unit) c.open-none.ensures.exact)
 
 pub loop-k-preserved : goal.loop-k-preserved
 loop-k-preserved c =

@@ -8,7 +8,7 @@ use Rattle.drive.proofs.run.Given as goal
 abbrev pub invariant-loop-i : goal.invariant-loop-i
 invariant-loop-i l =
     ((l.i ≤ l.visits) × ((length l.units ≡ 8) × ((length l.text ≡ 16) × (length l.frame ≡ 117))))
-    × (◌≡◌ {A = Group} (record { l.units = l.units; l.text = l.text; l.frame = l.frame; l.sum = l.sum }) (run_of l.n l.w l.i))
+    × (◌≡◌ {A = Group} (record { units = l.units; text = l.text; frame = l.frame; sum = l.sum }) (run_of l.n l.w l.i))
 
 abbrev pub decreases-loop-i : goal.decreases-loop-i
 decreases-loop-i l = l.visits - l.i

@@ -1,11 +1,7 @@
 use native.Mathlib.Omega.{arith}
 use mathlib.Core.Path.{sym, ◌∙◌}
-use Prim.Native.Nat.{◌-◌}
 use Rattle.drive.proofs.Sums.{bytes-more, bytes-all}
 use Rattle.drive.proofs.with_bytes.Goals as goal
-
-pub overflow_cast-s : goal.overflow_cast-s
-overflow_cast-s c = omega (arith, c.shared_slice_known-in-loop-i-1.given c.loop-i.i)
 
 pub loop-i-preserved : goal.loop-i-preserved
 loop-i-preserved c =

@@ -17,7 +17,7 @@ use Rattle.rules.specs.Calls as Calls
 pub record Pieces : Type 0 where
   -- p, next in number, may be accepted
   pub known : State → Message → Bool
-  -- how far from min_al on a unit sends
+  -- how far from minAL on a unit sends
   pub window : State → ℕ
   -- the first number whose frame is kept
   pub kept_from : State → ℕ
@@ -31,7 +31,7 @@ abbrev pub pieces : (State → Message → Bool) → (State → ℕ) → (State 
 pieces known window kept_from insert preack_below confirm_below =
     record { known = known; window = window; kept_from = kept_from; insert = insert; preack_below = preack_below; confirm_below = confirm_below }
 
--- min_al of the own index
+-- minAL of the own index
 abbrev pub lowest : State → ℕ
 lowest s = min_al s s.me
 

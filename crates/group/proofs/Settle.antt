@@ -39,7 +39,7 @@ pub record Knows (c : Course) (top : ℕ → ℕ) (u : Core) : Type 0 where
   pub low : (j : ℕ) → Index c.n j → least u.n (u.al j) ≤ u.req j
   pub reaches : (j k : ℕ) → Index c.n j → Index c.n k → said c j (u.req j) k ≤ u.al k j
 
--- nothing is due: all below min_al is pre-acknowledged
+-- nothing is due: all below minAL is pre-acknowledged
 pub record Settled (c : Course) (top : ℕ → ℕ) (done : List Place) (u : Part) : Type 0 where
   pub pre : ℕ → ℕ
   pub lists : Lists c top pre done u
@@ -77,7 +77,7 @@ module _ {c : Course} {top : ℕ → ℕ} {R : ℕ → ℕ → ℕ} (H : Spoken 
     pub knows : Knows c top (core u)
     pub settled : Settled c top (old ++ u.confirmed) (part u)
 
-  -- where no message of j is due, all of j's below min_al went over
+  -- where no message of j is due, all of j's below minAL went over
   all-over : (u : State) → Preacking u → ((j : ℕ) → Index c.n j → Stopped j u) → Confirming u
   unfolding min_al
   all-over u W stopped =

@@ -26,7 +26,7 @@ module _ (c : Core) (acks bytes frames : List ℕ) where
   abbrev s : State
   s = look c acks bytes frames
 
-  -- min_al of the own index
+  -- minAL of the own index
   module _ (h : sound_of c acks ≡ true) where
     low : lowest c ≡ own_low c
     low = let r = sound-ranges c acks h in lowest-is c r.i-low r.i-high

@@ -66,7 +66,7 @@ pub fn free_places(c: Core, acks: &[u32]) -> Look
     shown(whole(c, acks), 0, state::free_places(c) as usize)
 }
 
-// The kept numbers: from min_al of the own index up to SEQ - 1.
+// The kept numbers: from minAL of the own index up to SEQ - 1.
 pub fn kept_numbers(c: Core, acks: &[u32]) -> Look
     ensures { result ≡ look_of (kept_numbers_in c acks.now) }
 {

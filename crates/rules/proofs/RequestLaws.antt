@@ -98,7 +98,7 @@ pub record Answers (s : State) (r : Request) (numbers : List ℕ) : Type 0 where
   pub comes : Comes s r.cid r.src r.ack
   pub mine : r.lsrc ≡ s.me
   pub past : r.lseq ≤ s.seq
-  -- the range: from the larger of ACK_i and min_al_i, ending before LSEQ
+  -- the range: from the larger of ACK_i and minAL_i, ending before LSEQ
   pub range : numbers ≡ max (at r.ack s.me) (min_al s s.me) ∷ (r.lseq - 1) ∷ []
   pub some : max (at r.ack s.me) (min_al s s.me) < r.lseq
 

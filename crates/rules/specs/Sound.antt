@@ -15,7 +15,7 @@ nexts_fit s =
     && every 1 s.n (λ k. ltb 0 (s.req k) && ltb 0 (s.heard k))
     && every 1 s.n (λ k. every 1 s.n (λ j. ltb 0 (s.al k j) && ltb 0 (s.pal k j)))
 
--- min_al_i ≤ SEQ ≤ min_al_i + W
+-- minAL_i ≤ SEQ ≤ minAL_i + W
 unfoldable pub window_fits : State → Bool
 window_fits s = between (min_al s s.me) (min_al s s.me + s.w) s.seq
 

@@ -25,7 +25,7 @@ pub record State : Type 0 where
   pub buf : ℕ → ℕ
   -- heard k: one past the largest number of k's heard of
   pub heard : ℕ → ℕ
-  -- kept s: the own frame of number s, from min_al of the own index up to SEQ - 1
+  -- kept s: the own frame of number s, from minAL of the own index up to SEQ - 1
   pub kept : ℕ → List ℕ
   pub waiting : List Place
   pub ordered : List Place

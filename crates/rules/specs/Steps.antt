@@ -37,7 +37,7 @@ free_slot s j = first_free (map (λ (p : Place). p.slot) (from j (taken s))) 0 (
 unfoldable pub placed : State → Message → Place
 placed s p = record { slot = free_slot s p.src; src = p.src; seq = p.seq; ack = p.ack; text = p.text }
 
--- p is accepted, and waits. Kept numbers start at min_al of the own index.
+-- p is accepted, and waits. Kept numbers start at minAL of the own index.
 unfoldable pub stored : State → Message → State
 stored s p =
     let al : ℕ → ℕ → ℕ = column s.al p.src (at p.ack) in
@@ -149,7 +149,7 @@ preacked s p =
     with_lists s (column s.pal p.src (at p.ack)) (without_oldest p.src s.waiting) (insert p s.ordered)
     s.confirmed
 
--- the messages ps of one sender in turn, while they have SEQ < min_al
+-- the messages ps of one sender in turn, while they have SEQ < minAL
 abbrev pub preack_while : List Place → State → State
 preack_while [] s = s
 preack_while (p ∷ ps) s = cond (ltb p.seq (min_al s p.src)) (preack_while ps (preacked s p)) s

@@ -1,4 +1,4 @@
--- The state that a unit's numbers and arrays show: its lists, its places, its min_al.
+-- The state that a unit's numbers and arrays show: its lists, its places, its minAL.
 use mathlib.Core.List.{List}
 use mathlib.Core.Path.{◌≡◌, refl, sym, ap}
 use Prim.Native.Nat.{ℕ, ◌-◌, ◌*◌, ◌≤◌, ◌<◌}

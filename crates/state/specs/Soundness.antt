@@ -17,15 +17,15 @@ nexts_of n seq req heard al pal =
     && every 1 n (λ k. none_zero n (at (row_of al k)))
     && every 1 n (λ k. none_zero n (at (row_of pal k)))
 
--- min_al of unit k, read from its row
+-- minAL of unit k, read from its row
 unfoldable pub low_in : List ℕ → ℕ → ℕ → ℕ
 low_in al k n = least n (at (row_of al k))
 
--- min_al of the own index
+-- minAL of the own index
 abbrev pub own_low : Core → ℕ
 own_low c = low_in c.al c.me c.n
 
--- the first m kept frames, of numbers from min_al on, are 37 + 4n to 85 + 4n bytes long
+-- the first m kept frames, of numbers from minAL on, are 37 + 4n to 85 + 4n bytes long
 unfoldable pub kept_lengths : List ℕ → ℕ → ℕ → Bool
 kept_lengths kept n m = every 1 m (λ k. between (37 + 4 * n) (85 + 4 * n) (at kept k))
 

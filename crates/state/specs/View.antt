@@ -18,7 +18,7 @@ place_at c acks bytes p =
       text = part bytes (48 * p) (get_or c.lens p 0);
     }
 
--- min_al of the own index
+-- minAL of the own index
 abbrev pub lowest : Core → ℕ
 lowest c = least c.n (grid c.n c.al c.me)
 

@@ -25,7 +25,7 @@ pub const MOST_WINDOW: usize = 4;
 
 pub const MOST_DATA: usize = 48;
 
-// The kept frame of number s is in slot s - min_al of the own index, and `kept` holds its length. `seqs` and `lens`
+// The kept frame of number s is in slot s - minAL of the own index, and `kept` holds its length. `seqs` and `lens`
 // hold number and data length of the message at each place.
 #[derive(Clone, Copy)]
 pub struct Core {
@@ -81,7 +81,7 @@ pub fn opened_with(o: Opening) -> Opened
     Opened { answer: 2, core }
 }
 
-// min_al of the own index.
+// minAL of the own index.
 pub fn own_low(al: &[u32], me: u8, n: u8) -> u32
     ensures { result ≡ low_in al.now me n }
 {

@@ -71,7 +71,7 @@ pub fn kept_fit(kept: [u8; 4], n: u8, m: u32) -> bool
     true
 }
 
-// SEQ is from min_al to min_al + W, a sum that may pass 32 bits, and the frames kept from min_al on are of fit lengths.
+// SEQ is from minAL to minAL + W, a sum that may pass 32 bits, and the frames kept from minAL on are of fit lengths.
 pub fn window_fits(low: u32, w: u8, n: u8, seq: u32, kept: [u8; 4]) -> bool
     ensures { result ≡ window_of low w n seq kept }
 {

@@ -81,7 +81,7 @@ request_checks c f =
 
 -- ---- send
 
--- SEQ is below min_al of the own index plus the smaller of W and (least BUF divided by n)
+-- SEQ is below minAL of the own index plus the smaller of W and (least BUF divided by n)
 unfoldable pub window_open : Core → Bool
 window_open c = ltb c.seq (own_low c + min c.w (least c.n (at c.buf) / c.n))
 

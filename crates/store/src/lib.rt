@@ -34,7 +34,7 @@ pub fn kept_slot(c: Core) -> u32
     tables::above(c.seq, own_low(&c.al, c.me, c.n))
 }
 
-// With column j of AL; kept lengths start at min_al of the own index.
+// With column j of AL; kept lengths start at minAL of the own index.
 fn column_stored(c: Core, j: u8, ack: [u32; 8]) -> Next
     ensures { result ≡ column_stored c j ack }
 {

@@ -1,4 +1,4 @@
--- The kept lengths move down by what min_al rose.
+-- The kept lengths move down by what minAL rose.
 use Rattle.store.proofs.CoreLaws.{column-made}
 use Rattle.store.proofs.column_stored.Goals as goal
 

@@ -1,4 +1,4 @@
--- The slot counts from min_al of the own index.
+-- The slot counts from minAL of the own index.
 use Rattle.store.specs.Store.{kept_slot}
 use Rattle.store.proofs.kept_slot.Goals as goal
 

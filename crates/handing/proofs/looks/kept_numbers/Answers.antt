@@ -1,4 +1,4 @@
--- The numbers from min_al of the own index up to SEQ are shown.
+-- The numbers from minAL of the own index up to SEQ are shown.
 use mathlib.Core.Path.{refl}
 use native.Mathlib.Omega.{arith}
 use Rattle.handing.specs.Looks.{whole_checks, kept_numbers_in}

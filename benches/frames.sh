@@ -4,7 +4,7 @@
 # usage: benches/frames.sh [ROUNDS]
 set -eu
 cd "$(dirname "$0")/.."
-. tests/lib/x86.sh
+. tests/lib/build.sh
 . benches/lib/timed.sh
 
 rounds=${1:-1000000}
@@ -16,7 +16,7 @@ work=$(mktemp -d)
 trap 'rm -rf "$work"' EXIT
 
 for _ in 1 2 3 4 5; do
-    timed proved "$rounds" c_run target/bin/framebench
+    timed proved "$rounds" target/bin/framebench
     timed second "$rounds" second/target/release/framebench
 done
 for name in proved second; do
@@ -28,4 +28,3 @@ if ! cmp -s "$work/proved" "$work/second"; then
     exit 1
 fi
 echo "ratio proved / second: $(ratio "${least[proved]}" "${least[second]}")"
-native || echo "$(uname -m): the proved code ran under an emulator, so its time and the ratio say nothing"

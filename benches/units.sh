@@ -5,7 +5,7 @@
 # usage: benches/units.sh [MESSAGES]
 set -eu
 cd "$(dirname "$0")/.."
-. tests/lib/x86.sh
+. tests/lib/build.sh
 . benches/lib/timed.sh
 
 # for n = 8; fewer units get more messages, so that the runs take as long
@@ -23,7 +23,7 @@ trap 'rm -rf "$work"' EXIT
 proved=target/bin/drive
 second=second/target/release/drive
 trusting=second/target/trusting/release/drive
-native && gcc -std=gnu11 -Wall -Wextra -Werror -O2 -fno-builtin -shared -fPIC benches/lib/copies.c -o "$work/copies.so"
+gcc -std=gnu11 -Wall -Wextra -Werror -O2 -fno-builtin -shared -fPIC benches/lib/copies.c -o "$work/copies.so"
 
 # same NAME: the program printed what the proved one printed
 same() {
@@ -71,14 +71,13 @@ for n in 2 3 8; do
         input="$n $w $count"
         least=()
         for _ in 1 2 3 4 5; do
-            timed proved "$input" c_run $proved
+            timed proved "$input" $proved
             timed second "$input" $second
             timed trusting "$input" $trusting
         done
         same second
         same trusting
-        each=-
-        native && each=$(copies "$(cat "$work/second.said")")
+        each=$(copies "$(cat "$work/second.said")")
         # shellcheck disable=SC2059
         printf "$line" "$n" "$w" "$(nanoseconds proved)" "$(nanoseconds second)" "$(nanoseconds trusting)" \
             "$(ratio "${least[proved]}" "${least[second]}")" "$(ratio "${least[proved]}" "${least[trusting]}")" "$each"
@@ -88,9 +87,4 @@ cat <<END
 proved, second, trusting: nanoseconds for each message; second tests soundness in each call, as the proved engine does,
 trusting does not. copies: whole units copied for each call, the driver's own copies counted in.
 END
-if native; then
-    echo "a unit has $(cat "$work/size") bytes; the proved program, with eight units, runs in $(stack) KB of stack"
-else
-    echo "$(uname -m): the proved program ran under an emulator, so its times and the ratios say nothing; copies, the size of
-a unit and the stack are found on x86-64 alone"
-fi
+echo "a unit has $(cat "$work/size") bytes; the proved program, with eight units, runs in $(stack) KB of stack"

@@ -2,7 +2,7 @@
 # The bench program on 01's own listing, in one piece, in parts of one byte, and without its last line feed.
 set -eu
 cd "$(dirname "$0")/.."
-. tests/lib/x86.sh
+. tests/lib/build.sh
 
 proved bench
 
@@ -13,7 +13,7 @@ printf 'G 2 2\nS 1 p\nS 1 q\nS 1 r\nA 2 2\nA 2 1' >"$work/script"
 printf 'group 2 2\n2 0\n3 0\n4 15\n5 9\n6 0\n' >"$work/listing"
 
 held() {
-    c_run target/bin/bench >"$work/said"
+    target/bin/bench >"$work/said"
     diff "$work/listing" "$work/said"
 }
 

@@ -3,7 +3,7 @@
 # address sanitizer, and from Rust.
 set -eu -o pipefail
 cd "$(dirname "$0")/.."
-. tests/lib/x86.sh
+. tests/lib/build.sh
 
 lib=$(archive frame)
 cargo build --release --offline --quiet --manifest-path second/Cargo.toml
@@ -13,23 +13,18 @@ work=$(mktemp -d)
 trap 'rm -rf "$work"' EXIT
 
 compare() {
-    "$release/compare_frames" frames | c_run "$1" | "$release/compare_frames" judge
+    "$release/compare_frames" frames | "$1" | "$release/compare_frames" judge
 }
 
 echo "compare_frames: from C"
 c_build "$work/plain" -O2 tests/read_frames.c "$lib"
 compare "$work/plain"
 
-if native; then
-    echo "compare_frames: from C, with the address sanitizer"
-    c_build "$work/checked" -O1 -g -fsanitize=address tests/read_frames.c "$lib"
-    compare "$work/checked"
+echo "compare_frames: from C, with the address sanitizer"
+c_build "$work/checked" -O1 -g -fsanitize=address tests/read_frames.c "$lib"
+compare "$work/checked"
 
-    echo "compare_frames: from Rust"
-    rustc --edition 2021 -O second/ffi/compare_frames.rs -o "$work/linked" \
-        --extern "second=$release/libsecond.rlib" -L target/staticlib -l static=frame
-    "$work/linked"
-else
-    echo "compare_frames: $(uname -m): without the address sanitizer and the Rust program that links the archive," \
-        "which have no libraries here for x86-64"
-fi
+echo "compare_frames: from Rust"
+rustc --edition 2021 -O second/ffi/compare_frames.rs -o "$work/linked" \
+    --extern "second=$release/libsecond.rlib" -L target/staticlib -l static=frame
+"$work/linked"

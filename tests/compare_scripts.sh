@@ -2,12 +2,9 @@
 # The bench program against the second program, on random scripts with a fixed seed.
 set -eu
 cd "$(dirname "$0")/.."
-. tests/lib/x86.sh
+. tests/lib/build.sh
 
 proved bench
 
-work=$(mktemp -d)
-trap 'rm -rf "$work"' EXIT
-
 cargo build --release --offline --quiet --manifest-path second/Cargo.toml
-second/target/release/compare "$(runnable bench "$work")"
+second/target/release/compare target/bin/bench

@@ -2,7 +2,7 @@
 # The reader from C: hand-worked frames against the archive, plainly and under the sanitizers, and the example host.
 set -eu
 cd "$(dirname "$0")/.."
-. tests/lib/x86.sh
+. tests/lib/build.sh
 
 lib=$(archive frame)
 
@@ -10,23 +10,17 @@ work=$(mktemp -d)
 trap 'rm -rf "$work"' EXIT
 
 c_build "$work/plain" -O2 tests/frame_c.c "$lib"
-c_run "$work/plain"
+"$work/plain"
 
-if native; then
-    c_build "$work/checked" -O1 -g -fsanitize=address,undefined -fno-sanitize-recover=all tests/frame_c.c "$lib"
-    c_run "$work/checked"
-else
-    c_build "$work/checked" -O1 -fsanitize=undefined -fsanitize-undefined-trap-on-error tests/frame_c.c "$lib"
-    c_run "$work/checked"
-    echo "frame_c: $(uname -m): without the address sanitizer, which has no runtime here for x86-64"
-fi
+c_build "$work/checked" -O1 -g -fsanitize=address,undefined -fno-sanitize-recover=all tests/frame_c.c "$lib"
+"$work/checked"
 
 # n = 2, CID 9, SRC 2, SEQ 3, ACK 4 and 3, BUF 12, data "hi"
 frame=01000101020001010300040000000904000102050004000000030600080000000400000003070002000c0a00026869
 c_build "$work/read_frame" -O2 examples/read_frame.c "$lib"
 
 said() {
-    c_run "$work/read_frame" "$1" >"$work/said" || echo "status $?" >>"$work/said"
+    "$work/read_frame" "$1" >"$work/said" || echo "status $?" >>"$work/said"
     diff - "$work/said"
 }
 

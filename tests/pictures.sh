@@ -2,7 +2,7 @@
 # Every example can be drawn, so that both programs print the same for it; the pictures in docs/ are those of today.
 set -eu
 cd "$(dirname "$0")/.."
-. tests/lib/x86.sh
+. tests/lib/build.sh
 
 proved bench
 
@@ -10,9 +10,8 @@ work=$(mktemp -d)
 trap 'rm -rf "$work"' EXIT
 
 cargo build --release --offline --quiet --manifest-path second/Cargo.toml
-bench=$(runnable bench "$work")
 for script in examples/*.script; do
-    second/target/release/picture --bench "$bench" <"$script" >"$work/$(basename "$script" .script).svg"
+    second/target/release/picture --bench target/bin/bench <"$script" >"$work/$(basename "$script" .script).svg"
 done
 for picture in docs/pictures/*.svg; do
     cmp "$picture" "$work/$(basename "$picture")"

@@ -63,7 +63,7 @@ fn total(rounds: u32) -> u32
 
 fn main(rt: HostRuntime) -> io::Result<()> {
     let mut buffer = [0u8; 16];
-    let n = rt.stdin().read(&mut buffer)?;
+    let n = rt.stdin().read(&mut buffer).unwrap_or(0);
     let Value::Is(rounds) = number(&buffer[..n]) else {
         return Ok(());
     };

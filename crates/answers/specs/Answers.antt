@@ -51,11 +51,15 @@ refusals =
 abbrev pub refusal_of : ℕ → Refusal
 refusal_of a = get_or refusals (a - 1) Nothing
 
--- the answer number of what a call gives: 0 where it is done
-abbrev pub answer_of : {A : Type 0} → Result A Refusal → ℕ
+-- what a call gives: an A, or why it refuses
+abbrev pub Answered : Type 0 → Type 0
+Answered A = Result A Refusal
+
+-- its answer number: 0 where it is done
+abbrev pub answer_of : {A : Type 0} → Answered A → ℕ
 answer_of (Ok x) = 0
 answer_of (Err r) = number_of r
 
 -- the first check that holds refuses with its number; where none holds, the call gives x
-abbrev pub judged : {A : Type 0} → List Check → A → Result A Refusal
+abbrev pub judged : {A : Type 0} → List Check → A → Answered A
 judged checks x = decide checks (λ a. Err (refusal_of a)) (Ok x)

@@ -6,6 +6,7 @@ use Prim.Native.Nat.{ℕ}
 use Rattle.rules.specs.Fields.{table, row_of}
 use Rattle.rules.specs.Message.{decode}
 use Rattle.frame.specs.declared.Frame.{Frame}
+use Rattle.std.specs.Prelude.{Option}
 use Rattle.frame.specs.declared.table.Row.{Row}
 use Rattle.frame.specs.Table.{line_of, has, length_fits}
 use Rattle.frame.specs.Frame.{frame_of, payload_of}
@@ -14,7 +15,7 @@ use Rattle.frame.specs.Export.{Exported}
 one_value : {A : Type 0} {r q x : A} → r ≡ x → q ≡ x → r ≡ q
 one_value a b = a ∙ sym b
 
-pub read-determined : (l : List ℕ) (r q : Frame) → r ≡ frame_of (decode l) → q ≡ frame_of (decode l) → r ≡ q
+pub read-determined : (l : List ℕ) (r q : Option Frame) → r ≡ frame_of (decode l) → q ≡ frame_of (decode l) → r ≡ q
 read-determined l r q a b = one_value a b
 
 -- the bytes of the part that is shown

@@ -15,7 +15,8 @@ use Rattle.rules.specs.Fields.{table, length_of, field_fits}
 use Rattle.rules.proofs.MapsLaws.{and_both, not-true}
 use Rattle.rules.proofs.FieldsLaws.{is_field, field_is}
 use Rattle.frame.specs.Table.{length_fits}
-use Rattle.frame.specs.Field.{no_field, field_at, part_at}
+use Rattle.frame.specs.Field.{field_at, part_at}
+use Rattle.std.specs.Prelude.{Some, None}
 
 -- the length that the field at p says
 abbrev pub length_at : List ℕ → ℕ → ℕ
@@ -64,28 +65,28 @@ module _ (l : List ℕ) (p t : ℕ) where
         inside = omega (arith, f.long, f.inside);
       })
 
-  no-field : (Here l p t → ⊥) → no_field ≡ field_at l p t
+  no-field : (Here l p t → ⊥) → None ≡ field_at l p t
   unfolding field_at
   no-field h = rw (not-true (field_fits table t (drop p l)) (λ e. h (here e)))
 
-  pub short-slice : length l < 3 → no_field ≡ field_at l p t
+  pub short-slice : length l < 3 → None ≡ field_at l p t
   short-slice h = no-field (λ (f : Here l p t). omega arith)
 
-  pub past_end : length l - 3 < p → no_field ≡ field_at l p t
+  pub past_end : length l - 3 < p → None ≡ field_at l p t
   past_end h = no-field (λ (f : Here l p t). omega arith)
 
-  pub other_tag : get_or l p 0 ≢ t → no_field ≡ field_at l p t
+  pub other_tag : get_or l p 0 ≢ t → None ≡ field_at l p t
   other_tag h = no-field (λ (f : Here l p t). h f.tag)
 
   module _ (n : ℕ) (e : n ≡ length_at l p) where
-    pub other_length : length_fits t n ≡ false → no_field ≡ field_at l p t
+    pub other_length : length_fits t n ≡ false → None ≡ field_at l p t
     other_length h = no-field (λ (f : Here l p t). false≢true (sym h ∙ ap (length_fits t) e ∙ f.fit))
 
-    pub cut : 3 ≤ length l → p ≤ length l - 3 → length l - (p + 3) < n → no_field ≡ field_at l p t
+    pub cut : 3 ≤ length l → p ≤ length l - 3 → length l - (p + 3) < n → None ≡ field_at l p t
     cut a b h = no-field (λ (f : Here l p t). omega arith)
 
     pub a-field : 3 ≤ length l → p ≤ length l - 3 → get_or l p 0 ≡ t → length_fits t n ≡ true → n ≤ length l - (p + 3)
-        → record { ok = true; start = p + 3; end = p + 3 + n } ≡ field_at l p t
+        → Some (record { start = p + 3; end = p + 3 + n }) ≡ field_at l p t
     unfolding field_at
     a-field a b tag fit inside =
         let f : Here l p t = record { long = omega arith; tag = tag; fit = rw e at fit; inside = omega arith } in

@@ -3,34 +3,27 @@ use mathlib.Core.Bool.{Bool, true, false, cond, and-false}
 use mathlib.Core.Logic.{◌≢◌}
 use mathlib.Core.List.{List, [], ◌∷◌, map}
 use mathlib.Core.Path.{◌≡◌, refl, sym, ap, ◌∙◌}
-use Prim.Native.Nat.{ℕ, zero, suc, ◌+◌, ◌-◌, ◌%◌, ◌≤◌, ◌<◌}
+use Prim.Native.Nat.{ℕ, ◌+◌, ◌-◌, ◌%◌, ◌≤◌, ◌<◌}
 use native.Mathlib.Omega.{arith}
 use lib.Dec.{eqb}
-use lib.ListN.{length, get_or, get_or-map, get_or-eq_default}
+use lib.ListN.{length, get_or, get_or-map}
 use borrow.Author.Tests.{ne_eqb, le-leb, lt-leb}
 use Rattle.rules.specs.Maps.{between, all, among}
 use Rattle.rules.specs.Fields.{Row as Line, no_row, table, row_of}
-use Rattle.rules.proofs.MapsLaws.{and_both, between-low, between-high}
+use Rattle.rules.proofs.MapsLaws.{Eq?, same, other, eq?, and_both, between-low, between-high}
 use Rattle.rules.proofs.FieldsLaws.{all-row_of, row_of-line, usable-row_of, tags_left, tags_left-step, tags_left-end}
 use Rattle.rules.proofs.MessageLaws.{table-usable}
 use Rattle.frame.specs.declared.table.Row.{Row}
-use Rattle.frame.specs.Table.{line_of, has, length_fits}
+use Rattle.frame.specs.declared.table.Kind.{Kind}
+use Rattle.frame.specs.declared.table.Kind.TheVariants.{Data, Request}
+use Rattle.frame.specs.declared.table.UnknownKind.{UnknownKind}
+use Rattle.std.specs.Prelude.{Result, Ok, Err, Some, None}
+use Rattle.std.specs.Result.{result_ok}
+use Rattle.frame.specs.Table.{line_of, code_of, kind_of, is_of, has, length_fits}
 
-get_d_any : (l : List Row) (i : ℕ) (d e : Row) → i < length l → get_or l i d ≡ get_or l i e
-get_d_any [] i d e h = absurd (omega arith)
-get_d_any (x ∷ l) zero d e h = refl
-get_d_any (x ∷ l) (suc i) d e h = get_d_any l i d e (omega arith)
-
-pub row-of-tag : (t : ℕ) (d : Row) → 0 < t → t ≤ 10 → get_or (map line_of table) (t - 1) d ≡ line_of (row_of table t)
-unfolding table
-row-of-tag t d low high =
-    get_d_any (map line_of table) (t - 1) d (line_of no_row) (omega arith)
-    ∙ get_or-map line_of table (t - 1) no_row
-    ∙ ap line_of (sym (row_of-line table t low))
-
-pub row-past : (t : ℕ) → 10 < t → line_of no_row ≡ line_of (row_of table t)
-unfolding table
-row-past t h = ap line_of (sym (row_of-line table t (omega arith) ∙ get_or-eq_default table no_row {n = t - 1} (omega arith)))
+-- what the table gives for a tag, and where it has no line, a line of no kind
+pub row-got : (t : ℕ) → 0 < t → get_or (map line_of table) (t - 1) (line_of no_row) ≡ line_of (row_of table t)
+row-got t h = get_or-map line_of table (t - 1) no_row ∙ ap line_of (sym (row_of-line table t h))
 
 -- the test of a table: each kind is 1 or 2
 abbrev two_kinds : Line → Bool
@@ -48,18 +41,47 @@ among-no-other k (x ∷ l) h a b =
     let high : x ≤ 2 = between-high 1 2 x now.0 in
     rw (ne_eqb k x (λ e. omega arith), among-no-other k l now.1 a b)
 
+-- ---- a number and the kind that it gives, or none
+
+abbrev kind_when : Bool → Bool → ℕ → Result Kind UnknownKind
+kind_when a b n = cond a (Ok Data) (cond b (Ok Request) (Err (record { 0 = n })))
+
+module _ (n : ℕ) where
+  pub number-is : (k : Kind) → Some k ≡ result_ok (kind_of n) → n ≡ code_of k
+  number-is k e = go (eq? n 1) (eq? n 2) e
+    where
+      go : {a b : Bool} → Eq? n 1 a → Eq? n 2 b → Some k ≡ result_ok (kind_when a b n) → n ≡ code_of k
+      go (same e₁) e₂ h = let x : k ≡ Data = cc h in rw x e₁
+      go (other a) (same e₂) h = let x : k ≡ Request = cc h in rw x e₂
+      go (other a) (other b) h = cc h
+
+  pub number-of-none : None ≡ result_ok (kind_of n) → (n ≢ 1) × (n ≢ 2)
+  number-of-none e = go (eq? n 1) (eq? n 2) e
+    where
+      go : {a b : Bool} → Eq? n 1 a → Eq? n 2 b → None ≡ result_ok (kind_when a b n) → (n ≢ 1) × (n ≢ 2)
+      go (same e₁) e₂ h = cc h
+      go (other a) (same e₂) h = cc h
+      go (other a) (other b) h = (a, b)
+
 module _ (t : ℕ) where
-  pub has-message : has t 1 ≡ (line_of (row_of table t)).message
+  pub has-of : (k : Kind) → is_of (line_of (row_of table t)) k ≡ has t (code_of k)
   unfolding has
-  has-message = refl
+  has-of Data = refl
+  has-of Request = refl
 
-  pub has-request : has t 2 ≡ (line_of (row_of table t)).request
-  unfolding has
-  has-request = refl
+  -- the test of a row is that of its tag
+  pub has-row : (k : Kind) (r : Row) → r ≡ line_of (row_of table t) → (b : Bool) → b ≡ is_of r k → (x : Bool) → b ≡ x → has t (code_of k) ≡ x
+  has-row k r e b is x h = sym (has-of k) ∙ ap (λ q. is_of q k) (sym e) ∙ sym is ∙ h
 
-  pub has-no-other : (k : ℕ) → k ≢ 1 → k ≢ 2 → has t k ≡ false
+  has-no-other : (k : ℕ) → k ≢ 1 → k ≢ 2 → has t k ≡ false
   unfolding has
   has-no-other k a b = among-no-other k (row_of table t).kinds (all-row_of two_kinds refl table table-two_kinds t) a b
+
+  pub has-some : (n : ℕ) (k : Kind) → Some k ≡ result_ok (kind_of n) → is_of (line_of (row_of table t)) k ≡ has t n
+  has-some n k e = has-of k ∙ ap (has t) (sym (number-is n k e))
+
+  pub has-none : (n : ℕ) → None ≡ result_ok (kind_of n) → false ≡ has t n
+  has-none n e = let other = number-of-none n e in sym (has-no-other n other.0 other.1)
 
 -- ---- a loop over the table's tags
 

@@ -1,47 +1,52 @@
 -- Numbers in a slice: one turn of each loop that reads them.
-use mathlib.Core.Bool.{Bool, true, false, ◌&&◌}
-use mathlib.Core.Logic.{◌≢◌}
+use mathlib.Core.Bool.{Bool, not}
+use Rattle.std.specs.List.{list_any}
+use Rattle.std.specs.Prelude.{nat_eq}
 use mathlib.Core.List.{List, [], ◌∷◌, ◌++◌, append_assoc}
 use mathlib.Core.Path.{◌≡◌, refl, sym, ap, subst, ◌∙◌}
-use Prim.Native.Nat.{ℕ, suc, ◌+◌, ◌-◌, ◌*◌, ◌/◌, ◌^◌, ◌≤◌, ◌<◌}
+use Prim.Native.Nat.{ℕ, zero, suc, ◌+◌, ◌-◌, ◌*◌, ◌/◌, ◌^◌, ◌≤◌, ◌<◌}
 use native.Mathlib.Nat.{pow-le-pow_right}
 use native.Mathlib.Omega.{arith}
-use lib.Dec.{ltb}
-use lib.ListN.{length, get_or, take, drop, set, replicate, length-append, length-drop, length-replicate}
-use lib.Seq.{take_at, take-suc, get_or-drop, drop-cons, drop-drop, drop-length, set-append_seam}
-use borrow.Author.Tests.{lt-ltb}
+use Rattle.std.proofs.lemmas.List.{get_or-take}
+use lib.ListN.{length, get_or, take, drop, set, replicate, length-append, length-take, length-replicate}
+use lib.Seq.{take_at, take_all, take-suc, get_or-drop, drop-drop, set-append_seam}
+use borrow.Author.Tests.{lt-ltb, ne_eqb}
 use Rattle.rules.specs.Bytes.{number, all_numbers}
 use Rattle.rules.specs.Message.{no_zero}
 use Rattle.rules.proofs.BytesLaws.{number-++, length-all_numbers, all_numbers-suc}
-use Rattle.frame.specs.Acks.{eight, acks_of}
+use Rattle.frame.specs.Acks.{eight, acks_at}
+use Rattle.frame.specs.Frame.{head_at}
+use Rattle.std.specs.Prelude.{Some, None, true, false}
 
--- ---- a number of w bytes, j of which are read
+-- ---- a number, of whose bytes t the first j are read
 
-pub record Summed (s : List ℕ) (p w x j : ℕ) : Type 0 where
-  pub few : j ≤ w
-  pub is : x ≡ number (take j (drop p s))
+pub record Summed (t : List ℕ) (x j : ℕ) : Type 0 where
+  pub is : x ≡ number (take j t)
   pub small : x < 256 ^ j
 
-pub none-summed : (s : List ℕ) (p w : ℕ) → Summed s p w 0 0
-none-summed s p w = record { few = omega arith; is = refl; small = omega arith }
+pub none-summed : (t : List ℕ) → Summed t 0 0
+none-summed t = record { is = refl; small = omega arith }
 
-module _ (s : List ℕ) (p w x j : ℕ) (r : Summed s p w x j) where
-  pub small-yet : w ≤ 4 → j < w → x < 16777216
+module _ (t : List ℕ) (x j : ℕ) (r : Summed t x j) where
+  pub small-yet : length t ≤ 4 → j < length t → x < 16777216
   small-yet h g = omega (arith, r.small, pow-le-pow_right {n = 256} (omega arith) {i = j} {j = 3} (omega arith))
 
-  pub one-summed : (b : ℕ) → p + w ≤ length s → j < w → b ≡ get_or s (p + j) 0 → b < 256 → Summed s p w (x * 256 + b) (j + 1)
-  one-summed b h g e f =
+  pub one-summed : (b : ℕ) → j < length t → b ≡ get_or t j 0 → b < 256 → Summed t (x * 256 + b) (j + 1)
+  one-summed b h e f =
       let next : j + 1 ≡ suc j = omega arith in
       record {
-        few = omega arith;
-        is = rw (next, take-suc (drop p s) j 0 (rw length-drop (omega arith)), number-++, get_or-drop) (omega (arith, r.is));
+        is = rw (next, take-suc t j 0 h, number-++) (omega (arith, r.is));
         small = rw next (omega (arith, r.small));
       }
 
-  pub all-summed : w ≤ j → x ≡ number (take w (drop p s))
-  all-summed h =
-      let e : j ≡ w = omega (arith, r.few) in
-      r.is ∙ ap (λ n. number (take n (drop p s))) e
+  pub all-summed : j ≡ length t → x ≡ number t
+  all-summed e = r.is ∙ ap number (take_all j t (omega arith))
+
+pub part-byte : (s : List ℕ) (p n j : ℕ) → j < length (take n (drop p s)) → (b : ℕ) → b ≡ get_or (take n (drop p s)) j 0
+    → ((i : ℕ) → get_or s i 0 < 256) → b < 256
+part-byte s p n j h b e bytes =
+    let inside : j < n = omega (arith, length-take n (drop p s)) in
+    rw (e, get_or-take n (drop p s) j 0 inside, get_or-drop) (bytes (p + j))
 
 -- ---- the eight numbers, i of which are read
 
@@ -64,20 +69,10 @@ acks-more s p i x h e =
 
 -- ---- the test of each number
 
-module _ (a : List ℕ) (i : ℕ) (h : i < length a) where
-  no_zero-front : no_zero (drop i a) ≡ ltb 0 (get_or a i 0) && no_zero (drop (i + 1) a)
-  no_zero-front =
-      let next : i + 1 ≡ suc i = omega arith in
-      rw (next, drop-cons a i 0 h)
-
-  pub zero-here : get_or a i 0 ≡ 0 → no_zero (drop i a) ≡ false
-  zero-here e = no_zero-front ∙ rw e
-
-  pub no-zero-here : get_or a i 0 ≢ 0 → no_zero (drop i a) ≡ no_zero (drop (i + 1) a)
-  no-zero-here e = no_zero-front ∙ rw (lt-ltb 0 (get_or a i 0) (omega arith))
-
-pub no-zero-left : (a : List ℕ) (i : ℕ) → i ≡ length a → no_zero (drop i a) ≡ true
-no-zero-left a i e = rw (e, drop-length a)
+pub none-is-zero : (l : List ℕ) → not (list_any (λ y. nat_eq y 0) l) ≡ no_zero l
+none-is-zero [] = refl
+none-is-zero (zero ∷ l) = refl
+none-is-zero (suc x ∷ l) = simp (ne_eqb (suc x) 0 (λ e. omega arith), lt-ltb 0 (suc x) (omega arith)) (none-is-zero l)
 
 -- ---- the whole of ACK
 
@@ -89,6 +84,11 @@ pub take-eight : (l : List ℕ) (n : ℕ) → length l ≡ n → take n (eight l
 unfolding eight
 take-eight l n e = take_at l (replicate (8 - length l) 0) n e
 
+pub no-head : (s : List ℕ) (p : ℕ) → no_zero (acks_at s p) ≡ false → None ≡ head_at s p
+unfolding head_at
+no-head s p h = rw h
+
+-- a is the eight at p, the first n being read; `some` is the test of them
 module _ (s : List ℕ) (p x : ℕ) (a : List ℕ) (ex : x ≡ number (take 2 (drop p s))) (ea : a ≡ eight (all_numbers 4 (x / 4) (drop (p + 2) s))) where
   count : length (all_numbers 4 (x / 4) (drop (p + 2) s)) ≡ x / 4
   count = length-all_numbers 4 (x / 4) (drop (p + 2) s)
@@ -96,8 +96,16 @@ module _ (s : List ℕ) (p x : ℕ) (a : List ℕ) (ex : x ≡ number (take 2 (d
   pub length-all : x / 4 ≤ 8 → length a ≡ 8
   length-all h = ap length ea ∙ length-eight (all_numbers 4 (x / 4) (drop (p + 2) s)) (omega (arith, count))
 
-  pub acks-are : (r : Bool) → r ≡ no_zero (take (x / 4) a) → record { ok = r; n = x / 4; all = a } ≡ acks_of s p
-  unfolding acks_of
-  acks-are r er =
-      let test : r ≡ no_zero (all_numbers 4 (x / 4) (drop (p + 2) s)) = er ∙ ap (λ l. no_zero (take (x / 4) l)) ea ∙ ap no_zero (take-eight _ (x / 4) count) in
-      rw (test, ea, ex)
+  pub some-zero : (b : Bool) → b ≡ list_any (λ y. nat_eq y 0) (take (x / 4) a) → no_zero (acks_at s p) ≡ not b
+  some-zero b eb =
+      sym
+      (ap not eb
+      ∙ none-is-zero (take (x / 4) a)
+      ∙ ap (λ l. no_zero (take (x / 4) l)) ea
+      ∙ ap no_zero (take-eight _ (x / 4) count)
+      ∙ ap (λ n. no_zero (all_numbers 4 (n / 4) (drop (p + 2) s))) ex)
+
+  pub a-head : no_zero (acks_at s p) ≡ true → (cid src : ℕ) → cid ≡ number (take 4 (drop 11 s)) → src ≡ number (take 1 (drop 18 s))
+      → Some (record { cid = cid; src = src; n = x / 4; ack = a }) ≡ head_at s p
+  unfolding head_at
+  a-head h cid src ec es = rw (h, ec, es, ea, ex, length-all_numbers 4 (number (take 2 (drop p s)) / 4) (drop (p + 2) s))

@@ -1,5 +1,5 @@
 -- From bytes that are well formed to what the rules read: byte 3 is the edition, byte 7 the kind.
-use mathlib.Core.Bool.{Bool, true}
+use mathlib.Core.Bool.{true}
 use mathlib.Core.List.{List, [], ◌∷◌}
 use mathlib.Core.Logic.{◌≢◌}
 use mathlib.Core.Option.{Option, none, some}
@@ -12,7 +12,6 @@ use borrow.Author.Tests.{eqb-true, ne_eqb}
 use Rattle.rules.specs.Bytes.{number, all_numbers}
 use Rattle.rules.specs.Fields.{table, tags_of, fits, numbers}
 use Rattle.rules.specs.Message.{Message, Request, Said, message, request, edition, in_limits, one, as_message, as_request, read_as, or_else, decode}
-use Rattle.rules.proofs.MapsLaws.{Eq?, same, other, eq?}
 use Rattle.rules.proofs.MessageLaws.{Read, read_some, read_none}
 use Rattle.frame.specs.Acks.{count_at, acks_at}
 use Rattle.frame.proofs.Places.{headed, head, DataPlaces, data-places, RequestPlaces, request-places}
@@ -88,14 +87,10 @@ no-tags : (k : ℕ) → k ≢ 1 → k ≢ 2 → tags_of table k ≡ []
 unfolding table tags_of
 no-tags k a b = rw (ne_eqb k 1 a, ne_eqb k 2 b)
 
-pub two-kinds : (l : List ℕ) (k : ℕ) → 8 ≤ length l → fits table (tags_of table k) l ≡ true → k ≢ 1 → k ≡ 2
-two-kinds l k long h a = go (eq? k 2)
-  where
-    go : {b : Bool} → Eq? k 2 b → k ≡ 2
-    go (same e) = e
-    go (other b) =
-        let none_left : length l ≡ 0 = eqb-true _ _ (ap (λ ts. fits table ts l) (sym (no-tags k a b)) ∙ h) in
-        absurd (omega arith)
+pub no-kind : (l : List ℕ) → get_or l 7 0 ≢ 1 → get_or l 7 0 ≢ 2 → Seen l → ⊥
+no-kind l a b s =
+    let none_left : length l ≡ 0 = eqb-true _ _ (ap (λ ts. fits table ts l) (sym (no-tags (get_or l 7 0) a b)) ∙ s.fit) in
+    omega (arith, s.long)
 
 -- ---- the numbers at their places
 

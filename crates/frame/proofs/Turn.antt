@@ -13,21 +13,36 @@ use Rattle.rules.proofs.MapsLaws.{same_test}
 use Rattle.rules.proofs.FieldsLaws.{is_field, tags_left}
 use Rattle.frame.specs.declared.field.Field.{Field}
 use Rattle.frame.specs.Table.{has}
-use Rattle.frame.specs.Field.{no_field, field_at}
+use Rattle.frame.specs.Field.{found, field_at}
+use Rattle.std.specs.Prelude.{Some, None}
 use Rattle.frame.proofs.Lines.{tags-step, tags-end}
 
--- what was found is whether the field fits, and its end
-ok-is : (l : List ℕ) (p t : ℕ) → (field_at l p t).ok ≡ field_fits table t (drop p l)
-unfolding field_at
-ok-is l p t = go (field_fits table t (drop p l))
-  where
-    go : (b : Bool) → (cond b (record { ok = true; start = p + 3; end = p + 3 + length_of (drop p l) }) no_field).ok ≡ b
-    go true = refl
-    go false = refl
+-- what was found says whether the field fits, and where it ends
+module _ (l : List ℕ) (p t : ℕ) where
+  fits-not : None ≡ field_at l p t → field_fits table t (drop p l) ≡ false
+  unfolding field_at
+  fits-not h = go (field_fits table t (drop p l)) h
+    where
+      go : (b : Bool) → None ≡ cond b (Some (found l p)) None → b ≡ false
+      go true e = cc e
+      go false e = refl
 
-end_is : (l : List ℕ) (p t : ℕ) → field_fits table t (drop p l) ≡ true → (field_at l p t).end ≡ p + 3 + length_of (drop p l)
-unfolding field_at
-end_is l p t h = rw h
+  module _ (f : Field) where
+    fits-here : Some f ≡ field_at l p t → field_fits table t (drop p l) ≡ true
+    unfolding field_at
+    fits-here h = go (field_fits table t (drop p l)) h
+      where
+        go : (b : Bool) → Some f ≡ cond b (Some (found l p)) None → b ≡ true
+        go true e = refl
+        go false e = cc e
+
+    ends-here : Some f ≡ field_at l p t → f.end ≡ p + 3 + length_of (drop p l)
+    unfolding field_at
+    ends-here h = go (field_fits table t (drop p l)) h
+      where
+        go : (b : Bool) → Some f ≡ cond b (Some (found l p)) None → f.end ≡ p + 3 + length_of (drop p l)
+        go true e = let same : f ≡ found l p = cc e in ap (λ (x : Field). x.end) same
+        go false e = cc e
 
 module _ (l : List ℕ) (p t k : ℕ) (low : 1 ≤ t) (high : t ≤ 10) where
   pass-by : has t k ≡ false → fits table (tags_left table t k) (drop p l) ≡ fits table (tags_left table (t + 1) k) (drop p l)
@@ -38,25 +53,20 @@ module _ (l : List ℕ) (p t k : ℕ) (low : 1 ≤ t) (high : t ≤ 10) where
       ≡ field_fits table t (drop p l) && fits table (tags_left table (t + 1) k) (drop (3 + length_of (drop p l)) (drop p l))
   here y = ap (λ ts. fits table ts (drop p l)) (tags-step t k low high true y)
 
-  module _ (y : has t k ≡ true) (f : Field) (e : f ≡ field_at l p t) where
-    fit : (b : Bool) → f.ok ≡ b → field_fits table t (drop p l) ≡ b
-    fit b o = sym (ok-is l p t) ∙ ap (λ (x : Field). x.ok) (sym e) ∙ o
+  module _ (y : has t k ≡ true) where
+    refused : None ≡ field_at l p t → fits table (tags_left table t k) (drop p l) ≡ false
+    refused e = here y ∙ rw (fits-not l p t e)
 
-    end-here : f.ok ≡ true → f.end ≡ p + 3 + length_of (drop p l)
-    end-here o = ap (λ (x : Field). x.end) e ∙ end_is l p t (fit true o)
+    module _ (f : Field) (e : Some f ≡ field_at l p t) where
+      over : fits table (tags_left table t k) (drop p l) ≡ fits table (tags_left table (t + 1) k) (drop f.end l)
+      over =
+          let place : p + (3 + length_of (drop p l)) ≡ f.end = omega (arith, ends-here l p t f e) in
+          here y ∙ rw (fits-here l p t f e, drop-drop (3 + length_of (drop p l)) p l, place)
 
-    refused : f.ok ≡ false → fits table (tags_left table t k) (drop p l) ≡ false
-    refused o = here y ∙ rw (fit false o)
-
-    over : f.ok ≡ true → fits table (tags_left table t k) (drop p l) ≡ fits table (tags_left table (t + 1) k) (drop f.end l)
-    over o =
-        let place : p + (3 + length_of (drop p l)) ≡ f.end = omega (arith, end-here o) in
-        here y ∙ rw (fit true o, drop-drop (3 + length_of (drop p l)) p l, place)
-
-    inside : f.ok ≡ true → f.end ≤ length l
-    inside o =
-        let x = is_field table t (drop p l) (fit true o) in
-        omega (arith, end-here o, length-drop p l, x.long, x.inside)
+      inside : f.end ≤ length l
+      inside =
+          let x = is_field table t (drop p l) (fits-here l p t f e) in
+          omega (arith, ends-here l p t f e, length-drop p l, x.long, x.inside)
 
 -- ---- the walk: the fields of the tags below `tag` are passed, up to `at`
 
@@ -75,17 +85,17 @@ module _ (l : List ℕ) (k at tag : ℕ) (w : Walked l k at tag) where
   walked_by h n =
       record { low = omega arith; high = omega arith; inside = w.inside; rest = sym (pass-by l at tag k w.low h n) ∙ w.rest }
 
-  module _ (h : tag ≤ 10) (y : has tag k ≡ true) (f : Field) (e : f ≡ field_at l at tag) where
-    pub stopped : f.ok ≡ false → false ≡ fits table (tags_of table k) l
-    stopped o = sym (refused l at tag k w.low h y f e o) ∙ w.rest
+  module _ (h : tag ≤ 10) (y : has tag k ≡ true) where
+    pub stopped : None ≡ field_at l at tag → false ≡ fits table (tags_of table k) l
+    stopped e = sym (refused l at tag k w.low h y e) ∙ w.rest
 
-    pub walked-over : f.ok ≡ true → Walked l k f.end (tag + 1)
-    walked-over o =
+    pub walked-over : (f : Field) → Some f ≡ field_at l at tag → Walked l k f.end (tag + 1)
+    walked-over f e =
         record {
           low = omega arith;
           high = omega arith;
-          inside = inside l at tag k w.low h y f e o;
-          rest = sym (over l at tag k w.low h y f e o) ∙ w.rest;
+          inside = inside l at tag k w.low h y f e;
+          rest = sym (over l at tag k w.low h y f e) ∙ w.rest;
         }
 
   -- past the table nothing is left, and nothing may follow

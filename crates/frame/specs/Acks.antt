@@ -1,8 +1,6 @@
 -- The numbers of ACK as the code holds them.
 use Rattle.std.specs.Prelude.{List, ◌++◌, ℕ, ◌+◌, ◌-◌, ◌*◌, ◌/◌, ◌≤◌, length, take, drop, replicate}
 use Rattle.rules.specs.Bytes.{number, all_numbers}
-use Rattle.rules.specs.Message.{no_zero}
-use Rattle.frame.specs.declared.number.Acks.{Acks}
 
 -- the numbers, and 0 for the others of the eight
 unfoldable pub eight : List ℕ → List ℕ
@@ -14,9 +12,6 @@ count_at l p = number (take 2 (drop p l)) / 4
 
 abbrev pub acks_at : List ℕ → ℕ → List ℕ
 acks_at l p = all_numbers 4 (count_at l p) (drop (p + 2) l)
-
-unfoldable pub acks_of : List ℕ → ℕ → Acks
-acks_of l p = record { ok = no_zero (acks_at l p); n = count_at l p; all = eight (acks_at l p) }
 
 -- they are at most eight, and the slice has them
 pub record AckFits (l : List ℕ) (p : ℕ) : Type 0 where

@@ -1,26 +1,39 @@
 -- What the reader for C hosts answers, and what it leaves in the lent numbers.
-use Rattle.std.specs.Prelude.{not, List, [], ◌∷◌, ◌++◌, ◌≡◌, ℕ, eqb, ltb, length}
+use Rattle.std.specs.Prelude.{List, [], ◌∷◌, ◌++◌, ◌≡◌, ℕ, ltb, length, Option, Some, None, is_none}
 use Rattle.rules.specs.Message.{decode}
 use Rattle.rules.specs.Calls.{◌⇒◌, decide, written}
+use Rattle.frame.specs.declared.Head.{Head}
 use Rattle.frame.specs.declared.Frame.{Frame}
+use Rattle.frame.specs.declared.Frame.TheVariants.{Data, Request}
 use Rattle.frame.specs.Frame.{frame_of}
 
--- kind, CID, SRC, SEQ, n, ACK_1 to ACK_8, BUF, LSRC, LSEQ, start and length of the data
+-- kind, CID, SRC, SEQ, n, ACK_1 to ACK_8, BUF, LSRC, LSEQ, start and length of the data; 0 for what the kind lacks
+abbrev pub eighteen : ℕ → Head → ℕ → List ℕ → List ℕ
+eighteen kind h seq rest = kind ∷ h.cid ∷ h.src ∷ seq ∷ h.n ∷ h.ack ++ rest
+
 abbrev pub handed : Frame → List ℕ
-handed f =
-    f.kind ∷ f.cid ∷ f.src ∷ f.seq ∷ f.n ∷ f.ack ++ (f.buf ∷ f.lsrc ∷ f.lseq ∷ f.start ∷ f.len ∷ [])
+handed (Data d) = eighteen 1 d.head d.seq (d.buf ∷ 0 ∷ 0 ∷ d.start ∷ d.len ∷ [])
+handed (Request r) = eighteen 2 r.head 0 (0 ∷ r.lsrc ∷ r.lseq ∷ 0 ∷ 0 ∷ [])
+
+abbrev pub ack_in : Frame → List ℕ
+ack_in (Data d) = d.head.ack
+ack_in (Request r) = r.head.ack
 
 pub record Handed : Type 0 where
   pub answer : ℕ
   pub numbers : List ℕ
 
+abbrev all_handed : Option Frame → List ℕ
+all_handed None = []
+all_handed (Some f) = handed f
+
 -- 3 where l is no frame, 16 where there is no room for 18; both leave the numbers as they were
 unfoldable pub exported : List ℕ → List ℕ → Handed
 exported l out =
     let f = frame_of (decode l) in
-    decide ((not (eqb f.answer 0) ⇒ f.answer) ∷ (ltb (length out) 18 ⇒ 16) ∷ [])
+    decide ((is_none f ⇒ 3) ∷ (ltb (length out) 18 ⇒ 16) ∷ [])
     (λ a. record { answer = a; numbers = out })
-    (record { answer = 0; numbers = written out (handed f) })
+    (record { answer = 0; numbers = written out (all_handed f) })
 
 pub record Exported (l out : List ℕ) (answer : ℕ) (after : List ℕ) : Type 0 where
   pub answers : answer ≡ (exported l out).answer

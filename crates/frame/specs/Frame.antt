@@ -1,79 +1,42 @@
 -- What the reader hands back of what the rules read.
-use Rattle.std.specs.Prelude.{List, [], ℕ, ◌+◌, ◌*◌, length, take, drop}
-use Rattle.std.proofs.Math.Option.{Option, none, some}
+use Rattle.std.specs.Prelude.{cond, List, [], ℕ, ◌+◌, ◌*◌, length, take, drop, Option, Some, None}
+use Rattle.std.proofs.Math.Option.{none, some}
+use Rattle.std.proofs.Math.Option as maybe
 use Rattle.rules.specs.Bytes.{number}
-use Rattle.rules.specs.Message.{Said, message, request, kind_of}
+use Rattle.rules.specs.Message.{Said, message, request, no_zero}
+use Rattle.frame.specs.declared.Head.{Head}
 use Rattle.frame.specs.declared.Frame.{Frame}
-use Rattle.frame.specs.declared.number.Acks.{Acks}
-use Rattle.frame.specs.Acks.{eight}
+use Rattle.frame.specs.declared.Frame.TheVariants.{Data, Request}
+use Rattle.frame.specs.Acks.{eight, acks_at}
 
-unfoldable pub frame_of : Option Said → Frame
-frame_of none =
-    record {
-      answer = 3;
-      kind = 0;
-      cid = 0;
-      src = 0;
-      seq = 0;
-      n = 0;
-      ack = eight [];
-      buf = 0;
-      lsrc = 0;
-      lseq = 0;
-      start = 0;
-      len = 0;
-    }
+-- CID, SRC and the numbers of ACK
+abbrev pub head_of : ℕ → ℕ → List ℕ → Head
+head_of cid src ack = record { cid = cid; src = src; n = length ack; ack = eight ack }
+
+unfoldable pub frame_of : maybe.Option Said → Option Frame
+frame_of none = None
 frame_of (some (message m)) =
-    record {
-      answer = 0;
-      kind = kind_of (message m);
-      cid = m.cid;
-      src = m.src;
+    Some
+    (Data
+    (record {
+      head = head_of m.cid m.src m.ack;
       seq = m.seq;
-      n = length m.ack;
-      ack = eight m.ack;
       buf = m.buf;
-      lsrc = 0;
-      lseq = 0;
       start = 37 + 4 * length m.ack;
       len = length m.text;
-    }
+    }))
 frame_of (some (request r)) =
-    record {
-      answer = 0;
-      kind = kind_of (request r);
-      cid = r.cid;
-      src = r.src;
-      seq = 0;
-      n = length r.ack;
-      ack = eight r.ack;
-      buf = 0;
-      lsrc = r.lsrc;
-      lseq = r.lseq;
-      start = 0;
-      len = 0;
-    }
+    Some (Request (record { head = head_of r.cid r.src r.ack; lsrc = r.lsrc; lseq = r.lseq }))
 
--- what frames of both kinds say, the numbers of ACK being a: CID at 11, SRC at 18
-unfoldable pub common_of : List ℕ → ℕ → Acks → Frame
-common_of l k a =
-    record {
-      answer = 0;
-      kind = k;
-      cid = number (take 4 (drop 11 l));
-      src = number (take 1 (drop 18 l));
-      seq = 0;
-      n = a.n;
-      ack = a.all;
-      buf = 0;
-      lsrc = 0;
-      lseq = 0;
-      start = 0;
-      len = 0;
-    }
+-- what frames of both kinds say, the length of ACK standing at p: CID at 11, SRC at 18; none where an ACK is 0
+unfoldable pub head_at : List ℕ → ℕ → Option Head
+head_at l p =
+    cond (no_zero (acks_at l p))
+    (Some (head_of (number (take 4 (drop 11 l))) (number (take 1 (drop 18 l))) (acks_at l p)))
+    None
 
 -- the data: of a message, and none otherwise
-unfoldable pub payload_of : Option Said → List ℕ
+unfoldable pub payload_of : maybe.Option Said → List ℕ
 payload_of none = []
 payload_of (some (message m)) = m.text
 payload_of (some (request r)) = []

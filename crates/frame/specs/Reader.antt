@@ -1,5 +1,5 @@
 -- What the field reader's functions hand back.
-use Rattle.std.specs.Prelude.{List, ℕ}
+use Rattle.std.specs.Prelude.{Option, List, ℕ}
 use Rattle.std.specs.Borrow.{Bor}
 use Rattle.frame.specs.declared.field.Field.{Field}
 use Rattle.frame.specs.declared.reader.Reader.{Reader}
@@ -10,7 +10,7 @@ abbrev pub begun : Bor (List ℕ) → Reader
 begun s = record { frame = s; at = 0 }
 
 -- the field of tag t that stands at the reader's place
-abbrev pub next_of : Reader → ℕ → Field
+abbrev pub next_of : Reader → ℕ → Option Field
 next_of r t = field_at r.frame.now r.at t
 
 -- after a field of the same frame

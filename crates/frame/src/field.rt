@@ -8,51 +8,33 @@ use crate::table::length_fits;
 // A field: its content stands from start up to end.
 #[derive(Clone, Copy)]
 pub struct Field {
-    pub ok: bool,
     pub start: usize,
     pub end: usize,
 }
 
 // The field of this tag that stands whole at a place, its length as the table says.
-pub fn field_at(s: &[u8], at: usize, tag: u8) -> Field
+pub fn field_at(s: &[u8], at: usize, tag: u8) -> Option<Field>
     ensures { result ≡ field_at s.now at tag }
 {
-    let none = Field {
-        ok: false,
-        start: 0,
-        end: 0,
-    };
-    if s.len() < 3 {
-        return none;
+    if s.len() < 3 || s.len() - 3 < at || s[at] != tag {
+        return None;
     }
-    if s.len() - 3 < at {
-        return none;
-    }
-    if s[at] != tag {
-        return none;
-    }
+    let start = at + 3;
     let n = number_at(s, at + 1, 2) as usize;
-    if !length_fits(tag, n) {
-        return none;
+    if !length_fits(tag, n) || s.len() - start < n {
+        return None;
     }
-    if s.len() - (at + 3) < n {
-        return none;
-    }
-    Field {
-        ok: true,
-        start: at + 3,
-        end: at + 3 + n,
-    }
+    Some(Field {
+        start,
+        end: start + n,
+    })
 }
 
 // The bytes from a place up to another; none where the slice has no such part.
 pub fn part_at(s: &[u8], start: usize, end: usize) -> &[u8]
     ensures { result.now ≡ part_at s.now start end }
 {
-    if end < start {
-        return &s[..0];
-    }
-    if s.len() < end {
+    if end < start || s.len() < end {
         return &s[..0];
     }
     &s[start..end]

@@ -14,64 +14,74 @@ pub mod table;
 
 pub use export::co_read_frame;
 use field::Field;
-use kind::{read_data, read_request, refused};
+use kind::{read_data, read_request};
 use reader::{content, well_formed};
+use table::Kind;
 
-// What a frame says. With a refusal the answer is 3 and all else 0; what the kind lacks is 0. The data are `len`
-// bytes of the frame from `start` on.
+// What frames of both kinds say: CID, SRC, and ACK: n of the eight, the others 0.
 #[derive(Clone, Copy)]
-pub struct Frame {
-    pub answer: u32,
-    pub kind: u32,
+pub struct Head {
     pub cid: u32,
     pub src: u32,
-    pub seq: u32,
     pub n: usize,
     pub ack: [u32; 8],
+}
+
+// A message. Its data are `len` bytes of the frame from `start` on.
+#[derive(Clone, Copy)]
+pub struct Data {
+    pub head: Head,
+    pub seq: u32,
     pub buf: u32,
-    pub lsrc: u32,
-    pub lseq: u32,
     pub start: usize,
     pub len: usize,
 }
 
-// What the bytes say as a frame of 01.
-pub fn read(s: &[u8]) -> Frame
+// A request for messages of unit LSRC: those before LSEQ that the sender's ACK says it lacks.
+#[derive(Clone, Copy)]
+pub struct Request {
+    pub head: Head,
+    pub lsrc: u32,
+    pub lseq: u32,
+}
+
+// What a frame says.
+#[derive(Clone, Copy)]
+pub enum Frame {
+    Data(Data),
+    Request(Request),
+}
+
+// What the bytes say as a frame of 01; none where they are no frame.
+pub fn read(s: &[u8]) -> Option<Frame>
     ensures { result ≡ frame_of (decode s.now) }
 {
     if s.len() < 8 {
-        return refused();
+        return None;
     }
-    let kind = s[7];
-    if !well_formed(s, kind) {
-        return refused();
+    let kind = Kind::try_from(s[7]).ok()?;
+    if !well_formed(s, kind) || s[3] != 1 {
+        return None;
     }
-    if s[3] != 1 {
-        return refused();
-    }
-    if kind == 1 {
-        read_data(s)
-    } else {
-        read_request(s)
+    match kind {
+        Kind::Data => read_data(s),
+        Kind::Request => read_request(s),
     }
 }
 
-// The data of a data frame, as that part of the caller's frame; empty with a refusal and for a request.
+// The data of a data frame, as that part of the caller's frame; empty where there is no frame and for a request.
 pub fn payload(s: &[u8]) -> &[u8]
     ensures { result.now ≡ payload_of (decode s.now) }
 {
-    let f = read(s);
-    let kind = f.kind;
-    if kind == 1 {
-        content(
+    match read(s) {
+        Some(Frame::Data(data)) => content(
             s,
             Field {
-                ok: true,
-                start: f.start,
+                start: data.start,
                 end: s.len(),
             },
-        )
-    } else {
-        &s[..0]
+        ),
+        Some(Frame::Request(_)) => &s[..0],
+        None => &s[..0],
     }
 }

@@ -1,12 +1,13 @@
 // The field reader: it keeps the lent frame and its place in it. Its functions are thin: `field_at` and `part_at`, on the
-// slice and numbers, do the work. `next_field` and `content` have plain parameters, so that their callers know no reader.
+// slice and numbers, do the work.
 ghost use Rattle.std.specs.Prelude.{◌≡◌};
 ghost use Rattle.rules.specs.Fields.{table, tags_of, fits};
+ghost use Rattle.frame.specs.Table.{code_of};
 ghost use Rattle.frame.specs.Field.{field_at, part_at};
 ghost use Rattle.frame.specs.Reader.{begun, next_of, after_of, part_of};
 
 use crate::field::{Field, field_at, part_at};
-use crate::table::has_tag;
+use crate::table::{Kind, row_of};
 
 #[derive(Clone, Copy)]
 pub struct Reader<'a> {
@@ -23,7 +24,7 @@ impl<'a> Reader<'a> {
     }
 
     // The field of this tag that stands at the reader's place.
-    fn next(self, tag: u8) -> Field
+    fn next(self, tag: u8) -> Option<Field>
         ensures { result ≡ next_of self.entry tag }
     {
         field_at(self.frame, self.at, tag)
@@ -47,13 +48,6 @@ impl<'a> Reader<'a> {
     }
 }
 
-// The field of this tag that stands after another.
-fn next_field(s: &[u8], last: Field, tag: u8) -> Field
-    ensures { result ≡ field_at s.now last.end tag }
-{
-    Reader::new(s).after(last).next(tag)
-}
-
 // The content of a field.
 pub fn content(s: &[u8], f: Field) -> &[u8]
     ensures { result.now ≡ part_at s.now f.start f.end }
@@ -62,25 +56,17 @@ pub fn content(s: &[u8], f: Field) -> &[u8]
 }
 
 // The bytes are the fields of this kind, each once and in rising tag order, and nothing follows.
-pub fn well_formed(s: &[u8], kind: u8) -> bool
-    ensures { result ≡ fits table (tags_of table kind) s.now }
+pub fn well_formed(s: &[u8], kind: Kind) -> bool
+    ensures { result ≡ fits table (tags_of table (code_of kind)) s.now }
 {
-    let mut last = Field {
-        ok: true,
-        start: 0,
-        end: 0,
-    };
-    let mut tag = 1u8;
-    while tag <= 10 {
-        if has_tag(tag, kind) {
-            last = next_field(s, last, tag);
-            let ok = last.ok;
-            if !ok {
+    let mut reader = Reader::new(s);
+    for tag in 1..=10u8 {
+        if row_of(tag).is_of(kind) {
+            let Some(field) = reader.next(tag) else {
                 return false;
-            }
+            };
+            reader = reader.after(field);
         }
-        tag += 1;
     }
-    let end = last.end;
-    end == s.len()
+    reader.at == s.len()
 }

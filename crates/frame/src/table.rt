@@ -1,7 +1,43 @@
 // The ten tags of 01: what reader and writer know of each stands here and nowhere else.
 ghost use Rattle.std.specs.Prelude.{◌≡◌};
 ghost use Rattle.rules.specs.Fields.{table, row_of};
-ghost use Rattle.frame.specs.Table.{line_of, has, length_fits};
+ghost use Rattle.frame.specs.Table.{line_of, code_of, kind_of, is_of, has, length_fits};
+
+// What a frame is, by its number in tag 2.
+#[derive(Clone, Copy, Debug, PartialEq, Eq)]
+pub enum Kind {
+    Data,
+    Request,
+}
+
+// A number that no kind has.
+#[derive(Clone, Copy, Debug, PartialEq, Eq)]
+pub struct UnknownKind(pub u8);
+
+impl From<Kind> for u8 {
+    ghost from_gives = { λ kind code. code ≡ code_of kind };
+
+    fn from(kind: Kind) -> u8 {
+        match kind {
+            Kind::Data => 1,
+            Kind::Request => 2,
+        }
+    }
+}
+
+impl TryFrom<u8> for Kind {
+    type Error = UnknownKind;
+
+    ghost try_from_gives = { λ code kind. kind ≡ kind_of code };
+
+    fn try_from(code: u8) -> Result<Kind, UnknownKind> {
+        match code {
+            1 => Ok(Kind::Data),
+            2 => Ok(Kind::Request),
+            _ => Err(UnknownKind(code)),
+        }
+    }
+}
 
 // The content of a field is numbers of `width` bytes each; its length in bytes is from `least` to `greatest`; data
 // messages have the field, requests have it.
@@ -97,38 +133,45 @@ const TABLE: [Row; 10] = [
     },
 ];
 
-// The line of a tag; for tag 0 and past the table, a line of no kind.
+// The line of no kind.
+const NONE: Row = Row {
+    width: 1,
+    least: 0,
+    greatest: 0,
+    message: false,
+    request: false,
+};
+
+impl Row {
+    // Frames of this kind have the field.
+    pub fn is_of(self, kind: Kind) -> bool
+        ensures { result ≡ is_of self kind }
+    {
+        match kind {
+            Kind::Data => self.message,
+            Kind::Request => self.request,
+        }
+    }
+}
+
+// The line of a tag; for tag 0 and past the table, the line of no kind.
 pub fn row_of(tag: u8) -> Row
     ensures { result ≡ line_of (row_of table tag) }
 {
-    let none = Row {
-        width: 1,
-        least: 0,
-        greatest: 0,
-        message: false,
-        request: false,
-    };
     if tag == 0 {
-        return none;
+        return NONE;
     }
-    if 10 < tag {
-        return none;
-    }
-    TABLE[(tag - 1) as usize]
+    TABLE.get(tag as usize - 1).copied().unwrap_or(NONE)
 }
 
 // Frames of this kind have this tag.
 pub fn has_tag(tag: u8, kind: u8) -> bool
     ensures { result ≡ has tag kind }
 {
-    let row = row_of(tag);
-    if kind == 1 {
-        return row.message;
+    match Kind::try_from(kind) {
+        Ok(kind) => row_of(tag).is_of(kind),
+        Err(_) => false,
     }
-    if kind == 2 {
-        return row.request;
-    }
-    false
 }
 
 // A field of this tag can be n bytes long.
@@ -136,12 +179,7 @@ pub fn length_fits(tag: u8, n: usize) -> bool
     ensures { result ≡ length_fits tag n }
 {
     let row = row_of(tag);
-    let width = row.width as usize;
-    if n < row.least as usize {
-        return false;
-    }
-    if n > row.greatest as usize {
-        return false;
-    }
-    n % width == 0
+    let least = row.least as usize;
+    let greatest = row.greatest as usize;
+    least <= n && n <= greatest && n % row.width as usize == 0
 }

@@ -2,29 +2,44 @@
 use native.Mathlib.Omega.{arith}
 use mathlib.Core.Bool.{false≢true}
 use mathlib.Core.Path.{sym, ap, ◌∙◌}
-use Rattle.frame.proofs.Outs.{not-a-frame}
-use Rattle.frame.proofs.Reading.{two-kinds}
+use Rattle.std.specs.Result.{result_ok}
 use Rattle.rules.specs.Fields.{table, tags_of, fits}
+use Rattle.frame.specs.Table.{code_of}
+use Rattle.frame.proofs.Lines.{number-is, number-of-none}
+use Rattle.frame.proofs.Outs.{not-a-frame}
+use Rattle.frame.proofs.Reading.{no-kind}
 use Rattle.frame.proofs.read.Goals as goal
+use Rattle.frame.proofs.read.Goals.{then-not-well_formed-via-then-not-well_formed, then-not-well_formed-via-else-not-well_formed+then-s-ne1}
 
 pub returns-then-s-lt8 : goal.returns-then-s-lt8
-returns-then-s-lt8 c = c.refused.ensures ∙ not-a-frame c.args.s.now (λ s. omega arith)
+returns-then-s-lt8 c = not-a-frame c.args.s.now (λ s. omega arith)
+
+pub returns-in_err-kind : goal.returns-in_err-kind
+returns-in_err-kind c =
+    let other = number-of-none _ (sym c.in_err-kind.was ∙ c.ok.ensures.value ∙ ap result_ok c.try_from.ensures) in
+    c.from_residual.ensures ∙ not-a-frame c.args.s.now (no-kind _ other.0 other.1)
 
 pub returns-then-not-well_formed : goal.returns-then-not-well_formed
-returns-then-not-well_formed c = c.refused-then-not-well_formed.ensures ∙ not-a-frame _ (λ s. false≢true (sym (c.if-not-well_formed.true) ∙ c.well_formed-2.ensures ∙ s.fit))
-
-pub returns-then-s-ne1 : goal.returns-then-s-ne1
-returns-then-s-ne1 c = c.refused-then-s-ne1.ensures ∙ not-a-frame _ (λ s. c.if-s-ne1.true s.edition-is)
+returns-then-not-well_formed c =
+    let l = c.args.s.now in
+    let kind = number-is _ _ (sym c.in_ok-kind.was ∙ c.ok.ensures.value ∙ ap result_ok c.try_from.ensures) in
+    elim c.then-not-well_formed.branch [
+      | then-not-well_formed-via-then-not-well_formed w ↦
+          not-a-frame l
+          (λ s. false≢true (sym w.if-not-well_formed.true ∙ c.well_formed-2.ensures ∙ ap (λ k. fits table (tags_of table k) l) (sym kind) ∙ s.fit))
+      | then-not-well_formed-via-else-not-well_formed+then-s-ne1 w ↦ not-a-frame l (λ s. w.if-s-ne1.true s.edition-is)
+    ]
 
 pub read_data-requires : goal.read_data-requires
 read_data-requires c =
-    let l = c.args.s.now in
     let fit = sym c.well_formed-2.ensures ∙ c.if-not-well_formed.false in
-    (ap (λ k. fits table (tags_of table k) l) (sym c.if-kind-eq1.true) ∙ fit, c.if-s-ne1.false, c.if-kind-eq1.true)
+    let kind = number-is _ _ (sym c.in_ok-kind.was ∙ c.ok.ensures.value ∙ ap result_ok c.try_from.ensures) in
+    let one = c.in-Data.is in
+    (ap (λ k. fits table (tags_of table (code_of k)) c.args.s.now) (sym one) ∙ fit, c.if-s-ne1.false, kind ∙ ap code_of one)
 
 pub read_request-requires : goal.read_request-requires
 read_request-requires c =
-    let l = c.args.s.now in
     let fit = sym c.well_formed-2.ensures ∙ c.if-not-well_formed.false in
-    let two = two-kinds l _ c.if-s-lt8.false fit c.if-kind-eq1.false in
-    (ap (λ k. fits table (tags_of table k) l) (sym two) ∙ fit, c.if-s-ne1.false, two)
+    let kind = number-is _ _ (sym c.in_ok-kind.was ∙ c.ok.ensures.value ∙ ap result_ok c.try_from.ensures) in
+    let two = c.in-Request.is in
+    (ap (λ k. fits table (tags_of table (code_of k)) c.args.s.now) (sym two) ∙ fit, c.if-s-ne1.false, kind ∙ ap code_of two)

@@ -1,11 +1,6 @@
--- `put_numbers` meets its contract. The invariant: storing what is left gives the whole.
-use Prim.Native.Nat.{◌-◌}
-use lib.ListN.{length}
+-- `put_numbers` meets its contract. The invariant: storing what is left of ACK gives the whole.
 use Rattle.rules.proofs.StoresLaws.{Stored}
 use Rattle.frame.proofs.export.put_numbers.Given as goal
 
-abbrev pub invariant-loop-i : goal.invariant-loop-i
-invariant-loop-i l = Stored l.initial.out l.at l.a l.out l.i
-
-abbrev pub decreases-loop-i : goal.decreases-loop-i
-decreases-loop-i l = length l.a - l.i
+abbrev pub invariant-loop-k : goal.invariant-loop-k
+invariant-loop-k l = Stored l.initial.out 5 l.ack-items l.out l.k

@@ -1,20 +1,29 @@
 use native.Mathlib.Omega.{arith}
-use Rattle.frame.proofs.Numbers.{none-summed, small-yet, one-summed, all-summed}
+use Prim.Native.Nat.{◌+◌, ◌-◌}
+use lib.ListN.{drop, take}
+use mathlib.Core.Path.{◌≡◌, ap, ◌∙◌}
+use Rattle.rules.specs.Bytes.{number}
+use Rattle.frame.proofs.Numbers.{none-summed, small-yet, one-summed, all-summed, part-byte}
 use Rattle.frame.proofs.number.number_at.Goals as goal
 
-pub loop-j-init : goal.loop-j-init
-loop-j-init c = none-summed _ _ _
+pub loop-b-init : goal.loop-b-init
+loop-b-init c = none-summed _
 
 pub overflow_mul-x : goal.overflow_mul-x
-overflow_mul-x c = omega (arith, small-yet _ _ _ _ _ c.loop-j.invariant c.requires.0 c.loop-j-test.true)
+overflow_mul-x c = omega (arith, small-yet _ _ _ c.loop-b.invariant)
 
 pub overflow_add-x : goal.overflow_add-x
-overflow_add-x c = omega (arith, small-yet _ _ _ _ _ c.loop-j.invariant c.requires.0 c.loop-j-test.true)
+overflow_add-x c =
+    let byte = part-byte c.args.s.now _ _ _ c.loop-b-test.true _ c.from.ensures (λ i. omega (arith, c.type_inv.s i)) in
+    omega (arith, small-yet _ _ _ c.loop-b.invariant)
 
-pub loop-j-preserved : goal.loop-j-preserved
-loop-j-preserved c =
-    let e = c.wide.ensures in
-    one-summed _ _ _ _ _ c.loop-j.invariant _ c.requires.1 c.loop-j-test.true e.0 e.1
+pub loop-b-preserved : goal.loop-b-preserved
+loop-b-preserved c =
+    one-summed _ _ _ c.loop-b.invariant _ c.loop-b-test.true c.from.ensures
+    (part-byte c.args.s.now _ _ _ c.loop-b-test.true _ c.from.ensures (λ i. omega (arith, c.type_inv.s i)))
 
 pub returns : goal.returns
-returns c = all-summed _ _ _ _ _ c.loop-j.invariant c.loop-j-test.false
+returns c =
+    let a = c.args in
+    let w-is : a.at + a.w - a.at ≡ a.w = omega arith in
+    all-summed _ _ _ c.loop-b.invariant (omega arith) ∙ ap (λ n. number (take n (drop a.at a.s.now))) w-is

@@ -1,29 +1,44 @@
 use native.Mathlib.Omega.{arith}
 use Prim.Native.Nat.{◌+◌}
-use mathlib.Core.Path.{sym, ◌∙◌, subst⁻¹}
-use Rattle.frame.specs.declared.field.Field.{Field}
+use mathlib.Core.Path.{◌≡◌, refl, sym, ap, ◌∙◌, subst⁻¹}
+use Rattle.frame.specs.declared.reader.Reader.{Reader}
+use Rattle.frame.specs.Field.{field_at}
+use Rattle.frame.specs.Table.{code_of}
+use Rattle.frame.proofs.Lines.{has-row}
 use Rattle.frame.proofs.Turn.{Walked, none-walked, walked_by, stopped, walked-over, walked_all}
 use Rattle.frame.proofs.reader.well_formed.Goals as goal
-use Rattle.frame.proofs.reader.well_formed.Goals.{then-has_tag+else-not-ok, else-has_tag}
+use Rattle.frame.proofs.reader.well_formed.Goals.{then-is_of+in-Some, else-is_of}
 
 pub loop-tag-init : goal.loop-tag-init
-loop-tag-init c = none-walked _ _
+loop-tag-init c =
+    let l = c.args.s.now in
+    let Begun : Reader → Type 0 = λ r. (r.frame.now ≡ l) × Walked l (code_of c.args.kind) r.at 1 in
+    subst⁻¹ Begun c.new-reader.ensures (refl, none-walked _ _)
 
-pub returns-then-not-ok : goal.returns-then-not-ok
-returns-then-not-ok c =
-    stopped _ _ _ _ c.loop-tag.invariant c.loop-tag-test.true (sym c.has_tag.ensures ∙ c.if-has_tag.true) _ c.next_field-last.ensures
-    (c.if-not-ok.true)
+pub returns-in_default : goal.returns-in_default
+returns-in_default c =
+    let l = c.loop-tag in
+    let i = l.invariant in
+    stopped _ _ _ _ i.1 c.loop-tag-test.true (has-row l.tag _ _ c.row_of.ensures _ c.is_of.ensures _ c.if-is_of.true)
+    (sym c.in_default.is ∙ c.next.ensures ∙ ap (λ s. field_at s l.reader.at l.tag) i.0)
 
 pub loop-tag-preserved : goal.loop-tag-preserved
 loop-tag-preserved c =
     let l = c.loop-tag in
-    let a = c.args in
+    let i = l.invariant in
     let t = c.loop-tag-test.true in
-    let Next : Field → Type 0 = λ last. Walked a.s.now a.kind last.end (l.tag + 1) in
-    elim c.if-has_tag.branch [
-      | then-has_tag+else-not-ok w ↦ subst⁻¹ Next w.last-is (walked-over _ _ _ _ l.invariant t (sym c.has_tag.ensures ∙ w.if-has_tag.true) _ w.next_field-last.ensures w.if-not-ok.false)
-      | else-has_tag w ↦ subst⁻¹ Next w.last-is (walked_by _ _ _ _ l.invariant t (sym c.has_tag.ensures ∙ w.if-has_tag.false))
+    let s = c.args.s.now in
+    let Next : Reader → Type 0 = λ r. (r.frame.now ≡ s) × Walked s (code_of c.args.kind) r.at (l.tag + 1) in
+    elim c.if-is_of.branch [
+      | then-is_of+in-Some w ↦
+          subst⁻¹ Next (w.reader-is ∙ w.after-reader.ensures) (
+            i.0,
+            walked-over _ _ _ _ i.1 t (has-row l.tag _ _ c.row_of.ensures _ c.is_of.ensures _ w.if-is_of.true) _
+                (sym w.in-Some.is ∙ w.next.ensures ∙ ap (λ x. field_at x l.reader.at l.tag) i.0),
+          )
+      | else-is_of w ↦
+          subst⁻¹ Next w.reader-is (i.0, walked_by _ _ _ _ i.1 t (has-row l.tag _ _ c.row_of.ensures _ c.is_of.ensures _ w.if-is_of.false))
     ]
 
 pub returns : goal.returns
-returns c = walked_all _ _ _ _ c.loop-tag.invariant (omega arith)
+returns c = walked_all _ _ _ _ c.loop-tag.invariant.1 (omega arith)

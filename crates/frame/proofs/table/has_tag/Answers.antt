@@ -1,19 +1,15 @@
 -- `has_tag` meets its contract.
 use mathlib.Core.Path.{sym, ap, ◌∙◌}
-use Rattle.frame.proofs.Lines.{has-message, has-request, has-no-other}
-use Rattle.frame.specs.declared.table.Row.{Row}
-use Rattle.frame.specs.Table.{has}
+use Rattle.std.specs.Result.{result_ok}
+use Rattle.frame.specs.Table.{is_of}
+use Rattle.frame.proofs.Lines.{has-some, has-none}
 use Rattle.frame.proofs.table.has_tag.Goals as goal
 
-pub returns-then-kind-eq1 : goal.returns-then-kind-eq1
-returns-then-kind-eq1 c =
-    let t = c.args.tag in
-    ap (λ (r : Row). r.message) c.row_of-row.ensures ∙ sym (has-message t) ∙ ap (has t) (sym c.if-kind-eq1.true)
+pub returns-in-Ok : goal.returns-in-Ok
+returns-in-Ok c =
+    c.is_of.ensures
+    ∙ ap (λ r. is_of r c.in-Ok.kind) c.row_of.ensures
+    ∙ has-some c.args.tag c.args.kind c.in-Ok.kind (ap result_ok (sym c.in-Ok.is ∙ c.try_from.ensures))
 
-pub returns-then-kind-eq2 : goal.returns-then-kind-eq2
-returns-then-kind-eq2 c =
-    let t = c.args.tag in
-    ap (λ (r : Row). r.request) c.row_of-row.ensures ∙ sym (has-request t) ∙ ap (has t) (sym c.if-kind-eq2.true)
-
-pub returns : goal.returns
-returns c = sym (has-no-other _ _ c.if-kind-eq1.false c.if-kind-eq2.false)
+pub returns-in-Err : goal.returns-in-Err
+returns-in-Err c = has-none c.args.tag c.args.kind (ap result_ok (sym c.in-Err.is ∙ c.try_from.ensures))

@@ -11,8 +11,9 @@ use Rattle.rules.specs.Maps.{between, at, units}
 use Rattle.rules.specs.Message.{request, encode}
 use Rattle.rules.specs.State.{State}
 use Rattle.rules.specs.Steps.{asking}
-use Rattle.rules.specs.Calls.{make_checks, make_request}
-use Rattle.rules.proofs.AlikeLaws.{Alike, decide-alike}
+use Rattle.rules.specs.Calls.{refusal, make_checks, make_request}
+use Rattle.rules.proofs.AlikeLaws.{Alike}
+use Rattle.answers.proofs.AnswersLaws.{numbered-alike}
 use Rattle.rules.proofs.MapsLaws.{between-low, between-high, units_in, length-listed, or_left}
 use Rattle.rules.proofs.MessageLaws.{length-request}
 use Rattle.state.specs.declared.Core.{Core}
@@ -21,7 +22,7 @@ use Rattle.state.specs.Soundness.{sound_of}
 use Rattle.state.proofs.SoundLaws.{sound-look}
 use Rattle.state.proofs.RoomLaws.{sound-ranges}
 use Rattle.state.proofs.UnitsLaws.{take-units}
-use Rattle.handing.specs.Handing.{request_for, asking_checks, asking_of}
+use Rattle.handing.specs.Handing.{refusing, done_with, request_for, asking_checks, asking_of}
 use Rattle.handing.specs.Meant.{handed_means}
 
 -- the number of a unit
@@ -55,5 +56,5 @@ module _ (c : Core) (acks bytes frames : List ℕ) (k : ℕ) (out : List ℕ) wh
   pub asking-means : length c.req ≡ 8 → handed_means s (asking_of c acks k out) ≡ make_request s k out
   unfolding asking_of make_request
   asking-means long =
-      decide-alike (handed_means s) _ _ _ _ (λ a. refl) (asking_checks c acks k out) (make_checks s k out) alike
+      numbered-alike (handed_means s) (refusing out) (done_with (33 + 4 * c.n) (encode (request (request_for c k))) out) _ (λ a e. ap (refusal 1 s out) e) _ (asking_checks c acks k out) (make_checks s k out) (refl, (refl, (refl, (refl, tt)))) alike
       (λ passed. let u = is-unit passed.1.0 in rw (size u, requested u long (not-false _ passed.0)))

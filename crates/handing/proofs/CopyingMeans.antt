@@ -8,8 +8,9 @@ use lib.ListN.{length}
 use borrow.Author.Tests.{not-false}
 use Rattle.rules.specs.State.{State, min_al}
 use Rattle.rules.specs.Steps.{is_kept}
-use Rattle.rules.specs.Calls.{copy_checks, copy}
-use Rattle.rules.proofs.AlikeLaws.{Alike, decide-alike}
+use Rattle.rules.specs.Calls.{refusal, copy_checks, copy}
+use Rattle.rules.proofs.AlikeLaws.{Alike}
+use Rattle.answers.proofs.AnswersLaws.{numbered-alike}
 use Rattle.rules.proofs.MapsLaws.{and_left, and_right}
 use Rattle.tables.specs.Rows.{part}
 use Rattle.tables.proofs.ListedLaws.{length_part}
@@ -19,7 +20,7 @@ use Rattle.state.specs.Soundness.{own_low, sound_of}
 use Rattle.state.proofs.LookLaws.{low-look, lowest-is}
 use Rattle.state.proofs.RoomLaws.{sound-ranges}
 use Rattle.state.proofs.SoundLaws.{sound-look}
-use Rattle.handing.specs.Handing.{slot_for, length_for, copying_checks, copying_of}
+use Rattle.handing.specs.Handing.{refusing, done_with, slot_for, length_for, copying_checks, copying_of}
 use Rattle.handing.specs.Meant.{handed_means}
 
 module _ (c : Core) (acks bytes frames : List ℕ) where
@@ -63,5 +64,5 @@ module _ (c : Core) (acks bytes frames : List ℕ) where
     pub copying-means : handed_means s (copying_of c acks frames x out) ≡ copy s x out
     unfolding copying_of copy
     copying-means =
-        decide-alike (handed_means s) _ _ _ _ (λ a. refl) (copying_checks c acks x out) (copy_checks s x out) alike
+        numbered-alike (handed_means s) (refusing out) (done_with (length_for c x) (part frames (117 * slot_for c x) (length_for c x)) out) _ (λ a e. ap (refusal 1 s out) e) _ (copying_checks c acks x out) (copy_checks s x out) (refl, (refl, (refl, tt))) alike
         (λ passed. rw (frame (not-false _ passed.0) (not-false _ passed.1.0), length_part frames (117 * slot_for c x) (length_for c x)))

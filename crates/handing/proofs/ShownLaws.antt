@@ -1,21 +1,22 @@
--- What is shown with the answer of a list of checks is what the checks let be shown.
-use mathlib.Core.Bool.{true}
-use mathlib.Core.List.{List}
-use mathlib.Core.Path.{◌≡◌, ap, ◌∙◌}
-use Prim.Native.Nat.{ℕ}
-use lib.Dec.{ltb}
-use Rattle.rules.specs.Maps.{all}
-use Rattle.rules.specs.Calls.{Check, answer_of}
+-- What a look answers by its checks is what the checks let be shown.
+use Rattle.std.specs.Prelude.{cond, List, ◌≡◌, ⊤, ℕ, Ok, Err}
+use Rattle.std.specs.Result.{IsErrAnd}
+use mathlib.Core.Path.{sym, ap, ◌∙◌}
+use borrow.Author.Tests.{ne_eqb}
+use Rattle.rules.specs.Calls.{Check}
 use Rattle.rules.specs.Looks.{showing}
-use Rattle.rules.proofs.ChecksLaws.{answers_of}
-use Rattle.rules.proofs.DecideLaws.{decide-answer}
-use Rattle.handing.specs.declared.looks.Look.{Look}
-use Rattle.handing.specs.Looks.{look_of, shown_with}
+use Rattle.answers.specs.declared.Refusal.{Refusal}
+use Rattle.answers.specs.Answers.{Answered, number_of, refusal_of, judged}
+use Rattle.answers.proofs.AnswersLaws.{Numbered, passed_on, ok-decides, err-decides, refusal-number, number-not_zero}
+use Rattle.handing.specs.Looks.{shown_as}
 
-shown-checks : (l : List Check) (first count : ℕ) → all (λ x. ltb 0 x) (answers_of l) ≡ true → shown_with (answer_of l) first count ≡ showing l first count
-unfolding shown_with
-shown-checks l first count h = decide-answer (λ a. record { answer = a; first = 0; count = 0 }) (record { answer = 0; first = first; count = count }) l h
+module _ {A : Type 0} (f : ℕ → ℕ → A) (l : List Check) (r : Answered ⊤) (given : r ≡ judged l tt) (first count : ℕ) where
+  pub shown : (x : ⊤) → r ≡ Ok x → (a b : ℕ) → a ≡ first → b ≡ count → Ok (f a b) ≡ shown_as f (showing l first count)
+  shown x h a b y z = rw (y, z) (sym (ap (shown_as f) (ok-decides _ _ l x (sym given ∙ h))))
 
-pub look-shown : (l : List Check) → all (λ x. ltb 0 x) (answers_of l) ≡ true → (first count a f m : ℕ) → a ≡ answer_of l → f ≡ first → m ≡ count
-    → {r : Look} → r ≡ look_of (shown_with a f m) → r ≡ look_of (showing l first count)
-look-shown l h first count a f m e x y z = z ∙ rw (e, x, y) (ap look_of (shown-checks l first count h))
+  pub not-shown : Numbered l → (e : Refusal) → r ≡ Err e → (q : Answered A) → IsErrAnd q (λ d. d ≡ e) → q ≡ shown_as f (showing l first count)
+  not-shown n e h q p =
+      passed_on q e p
+      ∙ ap (λ (d : Refusal). Err d) (sym (refusal-number e))
+      ∙ ap (λ t. cond t (Ok (f 0 0)) (Err (refusal_of (number_of e)))) (sym (ne_eqb (number_of e) 0 (number-not_zero e)))
+      ∙ sym (ap (shown_as f) (err-decides _ _ l n e (sym given ∙ h)))

@@ -10,9 +10,11 @@ use lib.ListN.{length, get_or, length-map}
 use borrow.Author.Tests.{eqb-false, not-false}
 use Rattle.rules.specs.State.{Place, State}
 use Rattle.rules.specs.Steps.{without_taken}
-use Rattle.rules.specs.Calls.{written, oldest, take_checks, take}
+use Rattle.rules.specs.Calls.{refusal, written, oldest, take_checks, take}
 use Rattle.rules.proofs.MapsLaws.{length-listed}
-use Rattle.rules.proofs.AlikeLaws.{Alike, decide-alike}
+use Rattle.rules.proofs.AlikeLaws.{Alike}
+use Rattle.answers.proofs.AnswersLaws.{numbered-alike}
+use Rattle.std.specs.Prelude.{Ok}
 use Rattle.lists.specs.Order.{entry, confirmeds, without_first}
 use Rattle.lists.specs.View.{Shows}
 use Rattle.lists.proofs.ChangeLaws.{first-shows, without_first-shows}
@@ -26,7 +28,7 @@ use Rattle.state.proofs.LookLaws.{shows-look}
 use Rattle.state.proofs.SoundLaws.{sound-look}
 use Rattle.state.proofs.RoomLaws.{sound-room}
 use Rattle.state.specs.Changed.{with_order}
-use Rattle.handing.specs.Handing.{oldest_place, length_at, taken_at, taking_checks, taking_of}
+use Rattle.handing.specs.Handing.{refusing, done_with, oldest_place, length_at, taken_at, taking_checks, taking_of}
 use Rattle.handing.specs.Meant.{taken_means}
 
 module _ (c : Core) (acks bytes frames : List ℕ) where
@@ -60,7 +62,7 @@ module _ (c : Core) (acks bytes frames : List ℕ) where
     unfolding look place_at kept_of without_taken
     rest = sym (shows-is M c.n (without_first c.order) s (without_taken s) refl (without_first-shows c.order long (sound-room c acks h) (omega arith) M c.n s S))
 
-    taken : (out : List ℕ) → taken_means acks bytes frames (record { result = taken_at c p; output = written out (part bytes (48 * p) (length_at c p)) })
+    taken : (out : List ℕ) → taken_means c acks bytes frames (record { result = Ok (taken_at c p); output = written out (part bytes (48 * p) (length_at c p)) })
         ≡ record {
           answer = 0;
           numbers = (oldest s).src ∷ (oldest s).seq ∷ length (oldest s).text ∷ [];
@@ -83,8 +85,8 @@ module _ (c : Core) (acks bytes frames : List ℕ) where
     ),
   )
 
-  pub taking-means : (out : List ℕ) → length c.order.list ≡ 128 → taken_means acks bytes frames (taking_of c acks bytes out) ≡ take s out
+  pub taking-means : (out : List ℕ) → length c.order.list ≡ 128 → taken_means c acks bytes frames (taking_of c acks bytes out) ≡ take s out
   unfolding taking_of take
   taking-means out long =
-      decide-alike (taken_means acks bytes frames) _ _ _ _ (λ a. refl) (taking_checks c acks out) (take_checks s out) (alike out long)
+      numbered-alike (taken_means c acks bytes frames) (refusing out) (done_with (taken_at c p) (part bytes (48 * p) (length_at c p)) out) _ (λ a e. ap (refusal 3 s out) e) _ (taking_checks c acks out) (take_checks s out) (refl, (refl, (refl, tt))) (alike out long)
       (λ passed. taken long (not-false _ passed.0) (eqb-false c.order.confirmed 0 passed.1.0) out)

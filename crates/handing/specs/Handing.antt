@@ -1,16 +1,16 @@
 -- What is handed out, and the whole lent output: taking, asking and copying, as a unit's numbers and arrays give them.
-use Rattle.std.specs.Prelude.{not, ◌&&◌, ◌||◌, List, [], ◌∷◌, ◌≡◌, ℕ, ◌+◌, ◌-◌, ◌*◌, eqb, leb, ltb, length, get_or, take}
+use Rattle.std.specs.Prelude.{not, ◌&&◌, ◌||◌, List, [], ◌∷◌, ◌≡◌, ℕ, ◌+◌, ◌-◌, ◌*◌, eqb, leb, ltb, length, get_or, take, Ok, Err}
 use Rattle.rules.specs.Maps.{between, at}
 use Rattle.rules.specs.Message.{Request, request, encode}
 use Rattle.rules.specs.Calls.{Check, ◌⇒◌, decide, written}
 use Rattle.tables.specs.Rows.{part}
 use Rattle.lists.specs.Order.{sender_of, entry, without_first}
 use Rattle.framewrite.specs.Writing.{request_of}
+use Rattle.answers.specs.Answers.{Answered, refusal_of}
 use Rattle.state.specs.declared.Core.{Core}
 use Rattle.state.specs.Changed.{with_order}
 use Rattle.state.specs.Soundness.{own_low, sound_of}
 use Rattle.handing.specs.declared.Taken.{Taken}
-use Rattle.handing.specs.declared.Handed.{Handed}
 
 -- a result, and the whole output
 pub record Given (A : Type 0) : Type 0 where
@@ -22,10 +22,16 @@ pub record Gives {A : Type 0} (g : Given A) (r : A) (after : List ℕ) : Type 0 
   pub result : r ≡ g.result
   pub output : after ≡ g.output
 
--- l at the front of the output, where no check refuses: a refusal leaves the output as it was
-abbrev pub giving : {A : Type 0} → List Check → (ℕ → A) → A → List ℕ → List ℕ → Given A
-giving checks refused done l out =
-    decide checks (λ a. record { result = refused a; output = out }) (record { result = done; output = written out l })
+-- a refusal leaves the output as it was
+abbrev pub refusing : {A : Type 0} → List ℕ → ℕ → Given (Answered A)
+refusing out a = record { result = Err (refusal_of a); output = out }
+
+-- x, with l at the front of the output
+abbrev pub done_with : {A : Type 0} → A → List ℕ → List ℕ → Given (Answered A)
+done_with x l out = record { result = Ok x; output = written out l }
+
+abbrev pub giving : {A : Type 0} → List Check → A → List ℕ → List ℕ → Given (Answered A)
+giving checks x l out = decide checks (refusing out) (done_with x l out)
 
 -- ---- taking
 
@@ -36,14 +42,10 @@ oldest_place c = entry c.order 0
 abbrev pub length_at : Core → ℕ → ℕ
 length_at c p = get_or c.lens p 0
 
-abbrev pub not_taken : Core → ℕ → Taken
-not_taken c a = record { answer = a; src = 0; seq = 0; len = 0; core = c }
-
 -- the message at place p, the oldest confirmed one
 abbrev pub taken_at : Core → ℕ → Taken
 taken_at c p =
     record {
-      answer = 0;
       src = sender_of p;
       seq = get_or c.seqs p 0;
       len = length_at c p;
@@ -57,18 +59,12 @@ taking_checks c acks out =
     ∷ (ltb (length out) (length_at c (oldest_place c)) ⇒ 16)
     ∷ []
 
-unfoldable pub taking_of : Core → List ℕ → List ℕ → List ℕ → Given Taken
+unfoldable pub taking_of : Core → List ℕ → List ℕ → List ℕ → Given (Answered Taken)
 taking_of c acks bytes out =
     let p : ℕ = oldest_place c in
-    giving (taking_checks c acks out) (not_taken c) (taken_at c p) (part bytes (48 * p) (length_at c p)) out
+    giving (taking_checks c acks out) (taken_at c p) (part bytes (48 * p) (length_at c p)) out
 
 -- ---- asking and copying: the length of the frame
-
-abbrev pub handed : ℕ → ℕ → Handed
-handed a m = record { answer = a; len = m }
-
-abbrev pub not_handed : ℕ → Handed
-not_handed a = handed a 0
 
 -- the request for what is missing of k
 abbrev pub request_for : Core → ℕ → Request
@@ -82,9 +78,9 @@ asking_checks c acks k out =
     ∷ (ltb (length out) (33 + 4 * c.n) ⇒ 16)
     ∷ []
 
-unfoldable pub asking_of : Core → List ℕ → ℕ → List ℕ → Given Handed
+unfoldable pub asking_of : Core → List ℕ → ℕ → List ℕ → Given (Answered ℕ)
 asking_of c acks k out =
-    giving (asking_checks c acks k out) not_handed (handed 0 (33 + 4 * c.n)) (encode (request (request_for c k))) out
+    giving (asking_checks c acks k out) (33 + 4 * c.n) (encode (request (request_for c k))) out
 
 -- the slot of the kept frame of number x, and the frame's length
 abbrev pub slot_for : Core → ℕ → ℕ
@@ -100,6 +96,6 @@ copying_checks c acks x out =
     ∷ (ltb (length out) (length_for c x) ⇒ 16)
     ∷ []
 
-unfoldable pub copying_of : Core → List ℕ → List ℕ → ℕ → List ℕ → Given Handed
+unfoldable pub copying_of : Core → List ℕ → List ℕ → ℕ → List ℕ → Given (Answered ℕ)
 copying_of c acks frames x out =
-    giving (copying_checks c acks x out) not_handed (handed 0 (length_for c x)) (part frames (117 * slot_for c x) (length_for c x)) out
+    giving (copying_checks c acks x out) (length_for c x) (part frames (117 * slot_for c x) (length_for c x)) out

@@ -1,25 +1,35 @@
 -- What the looks at a unit show, as its numbers and arrays give it.
-use Rattle.std.specs.Prelude.{not, cond, List, [], ◌∷◌, ℕ, ◌-◌, eqb, length}
+use Rattle.std.specs.Prelude.{not, cond, List, [], ◌∷◌, ℕ, ◌-◌, eqb, length, Ok, Err}
 use Rattle.rules.specs.Maps.{between, at}
 use Rattle.rules.specs.Calls.{Check, ◌⇒◌}
 use Rattle.rules.specs.Looks.{Looked, showing}
 use Rattle.lists.specs.Order.{is_of, only, waitings}
+use Rattle.answers.specs.Answers.{Answered, refusal_of}
 use Rattle.state.specs.declared.Core.{Core}
-use Rattle.state.specs.Soundness.{own_low, sound_of}
+use Rattle.state.specs.Soundness.{own_low, sound_of, not_sound}
 use Rattle.state.specs.View.{free_places}
-use Rattle.handing.specs.declared.looks.Look.{Look}
+use Rattle.handing.specs.declared.looks.Numbers.{Numbers}
 
-abbrev pub look_of : Looked → Look
-look_of l = record { answer = l.answer; first = l.first; count = l.count }
+-- what a look of the rules gives, as the code answers it
+abbrev pub shown_as : {A : Type 0} → (ℕ → ℕ → A) → Looked → Answered A
+shown_as f l = cond (eqb l.answer 0) (Ok (f l.first l.count)) (Err (refusal_of l.answer))
 
--- what is shown with an answer
-unfoldable pub shown_with : ℕ → ℕ → ℕ → Looked
-shown_with a first count =
-    cond (eqb a 0) (record { answer = 0; first = first; count = count }) (record { answer = a; first = 0; count = 0 })
+-- numbers in a row, or a count alone
+abbrev pub row : ℕ → ℕ → Numbers
+row first count = record { first = first; count = count }
+
+abbrev pub count_alone : ℕ → ℕ → ℕ
+count_alone first count = count
+
+abbrev pub numbers_of : Looked → Answered Numbers
+numbers_of = shown_as row
+
+abbrev pub count_of : Looked → Answered ℕ
+count_of = shown_as count_alone
 
 module _ (c : Core) (acks : List ℕ) where
   abbrev pub whole_checks : List Check
-  whole_checks = (not (sound_of c acks) ⇒ 1) ∷ []
+  whole_checks = not_sound c acks
 
   abbrev pub unit_checks : ℕ → List Check
   unit_checks k = (not (sound_of c acks) ⇒ 1) ∷ (not (between 1 c.n k) ⇒ 5) ∷ []

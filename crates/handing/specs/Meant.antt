@@ -1,23 +1,28 @@
 -- What is handed out, as a result of the rules' calls.
-use Rattle.std.specs.Prelude.{List, [], ◌∷◌, ℕ}
+use Rattle.std.specs.Prelude.{List, [], ◌∷◌, ℕ, Ok, Err}
 use Rattle.rules.specs.State.{State}
-use Rattle.rules.specs.Calls.{Result}
+use Rattle.rules.specs.Calls.{Result, refusal}
+use Rattle.answers.specs.Answers.{Answered, number_of}
+use Rattle.state.specs.declared.Core.{Core}
 use Rattle.state.specs.View.{look}
 use Rattle.handing.specs.declared.Taken.{Taken}
-use Rattle.handing.specs.declared.Handed.{Handed}
 use Rattle.handing.specs.Handing.{Given}
 
--- the next unit has the arrays that it had
-abbrev pub taken_means : List ℕ → List ℕ → List ℕ → Given Taken → Result
-taken_means acks bytes frames g =
-    let t : Taken = g.result in
-    record {
-      answer = t.answer;
-      numbers = t.src ∷ t.seq ∷ t.len ∷ [];
-      next = look t.core acks bytes frames;
-      output = g.output;
-    }
+-- the next unit has the arrays that it had; a refusal leaves it the numbers c too
+module _ (c : Core) (acks bytes frames : List ℕ) where
+  abbrev pub taken_as : List ℕ → Answered Taken → Result
+  taken_as out (Err r) = refusal 3 (look c acks bytes frames) out (number_of r)
+  taken_as out (Ok t) =
+      record { answer = 0; numbers = t.src ∷ t.seq ∷ t.len ∷ []; next = look t.core acks bytes frames; output = out }
+
+  abbrev pub taken_means : Given (Answered Taken) → Result
+  taken_means g = taken_as g.output g.result
 
 -- the unit stays as it was
-abbrev pub handed_means : State → Given Handed → Result
-handed_means s g = record { answer = g.result.answer; numbers = g.result.len ∷ []; next = s; output = g.output }
+module _ (s : State) where
+  abbrev pub handed_as : List ℕ → Answered ℕ → Result
+  handed_as out (Err r) = refusal 1 s out (number_of r)
+  handed_as out (Ok m) = record { answer = 0; numbers = m ∷ []; next = s; output = out }
+
+  abbrev pub handed_means : Given (Answered ℕ) → Result
+  handed_means g = handed_as g.output g.result

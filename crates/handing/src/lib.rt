@@ -2,122 +2,100 @@
 #![tactic(auto)]
 
 ghost use Rattle.std.specs.Prelude.{◌≡◌};
-ghost use Rattle.handing.specs.Handing.{Gives, not_taken, taking_of, asking_of, copying_of};
+ghost use Rattle.handing.specs.Handing.{Gives, taking_of, asking_of, copying_of};
 
 mod copy;
 pub mod looks;
 
+use answers::Refusal;
 use copy::put_part;
 use framewrite::write_request;
 use lists::without_first;
-use state::{Core, is_unit, own_low, sound};
+use state::{Core, checked, is_unit, own_low};
 use tables;
 
-// The oldest confirmed message: its sender, its number, the length of its data, and the unit without it. With a
-// refusal the numbers are 0, and the unit is as it was.
+// The oldest confirmed message: its sender, its number, the length of its data, and the unit without it.
 #[derive(Clone, Copy)]
 pub struct Taken {
-    pub answer: u32,
     pub src: u8,
     pub seq: u32,
     pub len: usize,
     pub core: Core,
 }
 
-// A frame in the lent output: its length, 0 with a refusal.
-#[derive(Clone, Copy)]
-pub struct Handed {
-    pub answer: u32,
-    pub len: usize,
-}
-
 // Takes the oldest confirmed message: its data stand at the front of the output, and its place is free.
-pub fn taking<'a>(c: Core, acks: &'a [u32], bytes: &'a [u8], out: &mut [u8]) -> Taken
+pub fn taking<'a>(
+    c: Core,
+    acks: &'a [u32],
+    bytes: &'a [u8],
+    out: &mut [u8],
+) -> Result<Taken, Refusal>
     ensures { Gives (taking_of c acks.now bytes.now out.old) result out.new }
 {
-    if !sound(c, acks) {
-        return not_taken(c, 1);
-    }
+    checked(c, acks)?;
     let o = c.order;
     if o.confirmed == 0 {
-        return not_taken(c, 18);
+        return Err(Refusal::Nothing);
     }
     let p = tables::byte(&o.list, 0);
     let i = p as usize;
     let len = tables::byte(&c.lens, i) as usize;
     if out.len() < len {
-        return not_taken(c, 16);
+        return Err(Refusal::OutputTooShort);
     }
     put_part(out, bytes, 48 * i, len);
     let rest = without_first(o);
     let mut d = c;
     d.order = rest;
-    Taken {
-        answer: 0,
+    Ok(Taken {
         src: p / 16 + 1,
         seq: tables::get(&c.seqs, i),
         len,
         core: d,
-    }
+    })
 }
 
-fn not_taken(c: Core, answer: u32) -> Taken
-    ensures { result ≡ not_taken c answer }
-{
-    Taken {
-        answer,
-        src: 0,
-        seq: 0,
-        len: 0,
-        core: c,
-    }
-}
-
-// Makes the request for what is missing of unit k, at the front of the output.
-pub fn asking(c: Core, acks: &[u32], k: u8, out: &mut [u8]) -> Handed
+// Makes the request for what is missing of unit k, at the front of the output, and gives its length.
+pub fn asking(c: Core, acks: &[u32], k: u8, out: &mut [u8]) -> Result<usize, Refusal>
     ensures { Gives (asking_of c acks.now k out.old) result out.new }
 {
-    if !sound(c, acks) {
-        return Handed { answer: 1, len: 0 };
-    }
-    if !is_unit(c.n, k as u32) {
-        return Handed { answer: 5, len: 0 };
-    }
-    if k == c.me {
-        return Handed { answer: 5, len: 0 };
+    checked(c, acks)?;
+    if !is_unit(c.n, k as u32) || k == c.me {
+        return Err(Refusal::NoSuchUnit);
     }
     let heard = tables::at(&c.heard, k);
     if heard <= tables::at(&c.req, k) {
-        return Handed { answer: 18, len: 0 };
+        return Err(Refusal::Nothing);
     }
     let n = c.n as usize;
     let len = 33 + 4 * n;
     if out.len() < len {
-        return Handed { answer: 16, len: 0 };
+        return Err(Refusal::OutputTooShort);
     }
-    let answer = write_request(out, c.cid, c.me, &c.req, n, k, heard);
-    Handed { answer, len }
+    write_request(out, c.cid, c.me, &c.req, n, k, heard);
+    Ok(len)
 }
 
-// Copies the kept frame of number x to the front of the output.
-pub fn copying<'a>(c: Core, acks: &'a [u32], frames: &'a [u8], x: u32, out: &mut [u8]) -> Handed
+// Copies the kept frame of number x to the front of the output, and gives its length.
+pub fn copying<'a>(
+    c: Core,
+    acks: &'a [u32],
+    frames: &'a [u8],
+    x: u32,
+    out: &mut [u8],
+) -> Result<usize, Refusal>
     ensures { Gives (copying_of c acks.now frames.now x out.old) result out.new }
 {
-    if !sound(c, acks) {
-        return Handed { answer: 1, len: 0 };
-    }
+    checked(c, acks)?;
     let low = own_low(&c.al, c.me, c.n);
-    if x < low {
-        return Handed { answer: 18, len: 0 };
-    }
-    if c.seq <= x {
-        return Handed { answer: 18, len: 0 };
+    if x < low || c.seq <= x {
+        return Err(Refusal::Nothing);
     }
     let slot = (x - low) as usize;
     let len = tables::byte(&c.kept, slot) as usize;
     if out.len() < len {
-        return Handed { answer: 16, len: 0 };
+        return Err(Refusal::OutputTooShort);
     }
     put_part(out, frames, 117 * slot, len);
-    Handed { answer: 0, len }
+    Ok(len)
 }

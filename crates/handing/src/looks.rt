@@ -1,92 +1,74 @@
-// Looks at a unit: each answers 1 where the unit is not sound and 5 where k is no unit, and then shows nothing.
+// Looks at a unit: each refuses with 1 where the unit is not sound and with 5 where k is no unit.
 ghost use Rattle.std.specs.Prelude.{◌≡◌};
-ghost use Rattle.rules.specs.Calls.{answer_of};
-ghost use Rattle.handing.specs.Looks.{look_of, shown_with, whole_checks, unit_checks, to_take_in, free_places_in, kept_numbers_in, missing_in, waiting_in};
+ghost use Rattle.answers.specs.Answers.{judged};
+ghost use Rattle.handing.specs.Looks.{numbers_of, count_of, unit_checks, to_take_in, free_places_in, kept_numbers_in, missing_in, waiting_in};
 
+use answers::Refusal;
 use lists;
 use state;
-use state::{Core, is_unit, own_low, sound};
+use state::{Core, checked, is_unit, own_low};
 use tables;
 
-// A range of numbers by its first and its count, or a count alone.
+// Numbers in a row: the first, and how many.
 #[derive(Clone, Copy)]
-pub struct Look {
-    pub answer: u32,
+pub struct Numbers {
     pub first: u32,
     pub count: usize,
 }
 
-// The answer to a look at the whole unit.
-fn whole(c: Core, acks: &[u32]) -> u32
-    ensures { result ≡ answer_of (whole_checks c acks.now) }
+// Refuses a look at what an unsound unit holds, or at what it holds of no unit.
+fn checked_for(c: Core, acks: &[u32], k: u8) -> Result<(), Refusal>
+    ensures { result ≡ judged (unit_checks c acks.now k) tt }
 {
-    if sound(c, acks) { 0 } else { 1 }
-}
-
-// The answer to a look at what it holds of unit k.
-fn of_unit(c: Core, acks: &[u32], k: u8) -> u32
-    ensures { result ≡ answer_of (unit_checks c acks.now k) }
-{
-    if !sound(c, acks) {
-        return 1;
-    }
-    if is_unit(c.n, k as u32) { 0 } else { 5 }
-}
-
-// What is shown with this answer: nothing where it refuses.
-fn shown(answer: u32, first: u32, count: usize) -> Look
-    ensures { result ≡ look_of (shown_with answer first count) }
-{
-    if answer != 0 {
-        return Look {
-            answer,
-            first: 0,
-            count: 0,
-        };
-    }
-    Look {
-        answer: 0,
-        first,
-        count,
+    checked(c, acks)?;
+    if is_unit(c.n, k as u32) {
+        Ok(())
+    } else {
+        Err(Refusal::NoSuchUnit)
     }
 }
 
 // How many messages are confirmed and not yet taken.
-pub fn to_take(c: Core, acks: &[u32]) -> Look
-    ensures { result ≡ look_of (to_take_in c acks.now) }
+pub fn to_take(c: Core, acks: &[u32]) -> Result<usize, Refusal>
+    ensures { result ≡ count_of (to_take_in c acks.now) }
 {
-    let o = c.order;
-    shown(whole(c, acks), 0, o.confirmed as usize)
+    checked(c, acks)?;
+    Ok(c.order.confirmed as usize)
 }
 
 // How many places are free.
-pub fn free_places(c: Core, acks: &[u32]) -> Look
-    ensures { result ≡ look_of (free_places_in c acks.now) }
+pub fn free_places(c: Core, acks: &[u32]) -> Result<usize, Refusal>
+    ensures { result ≡ count_of (free_places_in c acks.now) }
 {
-    shown(whole(c, acks), 0, state::free_places(c) as usize)
+    checked(c, acks)?;
+    Ok(state::free_places(c) as usize)
 }
 
 // The kept numbers: from minAL of the own index up to SEQ - 1.
-pub fn kept_numbers(c: Core, acks: &[u32]) -> Look
-    ensures { result ≡ look_of (kept_numbers_in c acks.now) }
+pub fn kept_numbers(c: Core, acks: &[u32]) -> Result<Numbers, Refusal>
+    ensures { result ≡ numbers_of (kept_numbers_in c acks.now) }
 {
-    let low = own_low(&c.al, c.me, c.n);
-    shown(whole(c, acks), low, tables::above(c.seq, low) as usize)
+    checked(c, acks)?;
+    let first = own_low(&c.al, c.me, c.n);
+    let count = c.seq.saturating_sub(first) as usize;
+    Ok(Numbers { first, count })
 }
 
 // The missing numbers of unit k: from REQ on, also where none is missing.
-pub fn missing_of(c: Core, acks: &[u32], k: u8) -> Look
-    ensures { result ≡ look_of (missing_in c acks.now k) }
+pub fn missing_of(c: Core, acks: &[u32], k: u8) -> Result<Numbers, Refusal>
+    ensures { result ≡ numbers_of (missing_in c acks.now k) }
 {
-    let req = tables::at(&c.req, k);
-    let heard = tables::at(&c.heard, k);
-    shown(of_unit(c, acks, k), req, tables::above(heard, req) as usize)
+    checked_for(c, acks, k)?;
+    let first = tables::at(&c.req, k);
+    let count = tables::at(&c.heard, k).saturating_sub(first) as usize;
+    Ok(Numbers { first, count })
 }
 
 // How many of unit k's messages wait.
-pub fn waiting_of(c: Core, acks: &[u32], k: u8) -> Look
-    ensures { result ≡ look_of (waiting_in c acks.now k) }
+pub fn waiting_of(c: Core, acks: &[u32], k: u8) -> Result<usize, Refusal>
+    ensures { result ≡ count_of (waiting_in c acks.now k) }
 {
+    checked_for(c, acks, k)?;
     let o = c.order;
-    shown(of_unit(c, acks, k), 0, lists::waiting_of(o, k))
+    Ok(lists::waiting_of(o, k))
 }

@@ -1,4 +1,5 @@
 -- Laws that the proofs of the functions cite, and what the functions mean in the rules.
+pub mod CheckedLaws
 pub mod Determined
 pub mod EveryLaws
 pub mod LookLaws

@@ -8,6 +8,7 @@ use native.Mathlib.Nat.{zero-add}
 use lib.Dec.{eqb, leb, ltb}
 use lib.ListN.{get_or, replicate, get_or-replicate}
 use borrow.Author.Tests.{le-leb, lt-leb, lt-ltb, le-ltb}
+use Rattle.std.specs.Prelude.{⊤, Ok, Err}
 use Rattle.rules.specs.Maps.{between, at, every, units}
 use Rattle.rules.specs.Message.{last}
 use Rattle.rules.specs.State.{State, opened, closed}
@@ -21,8 +22,9 @@ use Rattle.rules.proofs.SoundLaws.{facts-sound}
 use Rattle.tables.specs.Rows.{part, row_of, grid, none_zero, raised, with_column}
 use Rattle.tables.proofs.GridLaws.{Unit?, inside, outside, unit?, at_from}
 use Rattle.tables.proofs.RowLaws.{at_before}
+use Rattle.answers.specs.declared.Refusal.TheVariants.{CannotOpen}
+use Rattle.answers.specs.Answers.{Answered, answer_of}
 use Rattle.state.specs.declared.Core.{Core}
-use Rattle.state.specs.declared.Opened.{Opened}
 use Rattle.state.specs.declared.Opening.{Opening}
 use Rattle.state.specs.View.{lowest, kept_of, look}
 use Rattle.state.specs.Opening.{up_to, rows_of, core_of, closed_core, opened_of}
@@ -168,9 +170,12 @@ closed-look acks bytes frames =
 
 -- ---- the two ways it ends
 
+abbrev pub Opened : Type 0
+Opened = Core × Answered ⊤
+
 pub data OpensSound (acks : List ℕ) : Opened → Type 0 where
-  opens : (c : Core) → sound_of c acks ≡ true → OpensSound acks (record { answer = 0; core = c })
-  refuses : OpensSound acks (record { answer = 2; core = closed_core })
+  opens : (c : Core) → sound_of c acks ≡ true → OpensSound acks (c, Ok tt)
+  refuses : OpensSound acks (closed_core, Err CannotOpen)
 
 module _ (o : Opening) where
   -- what the rules open with the same arguments
@@ -184,8 +189,8 @@ module _ (o : Opening) where
   Fits = Opens o.me o.n o.w o.cid (at o.first)
 
   opened-cases : (P : Opened → Rules.Opened → Type 0)
-      → P (record { answer = 2; core = closed_core }) (record { answer = 2; unit = closed })
-      → (Fits → P (record { answer = 0; core = core_of o }) (record { answer = 0; unit = fresh }))
+      → P (closed_core, Err CannotOpen) (record { answer = 2; unit = closed })
+      → (Fits → P (core_of o, Ok tt) (record { answer = 0; unit = fresh }))
       → P (opened_of o) there
   unfolding opened_of opening open_checks
   opened-cases P x y =
@@ -193,15 +198,15 @@ module _ (o : Opening) where
       (λ e. passed-opens o.me o.n o.w o.cid (at o.first) (ap not e, tt))
     where
       go : (t : Bool) → (t ≡ true → Fits)
-          → P (cond (not t) (record { answer = 2; core = closed_core }) (record { answer = 0; core = core_of o }))
+          → P (cond (not t) (closed_core, Err CannotOpen) (core_of o, Ok tt))
           (cond (not t) (record { answer = 2; unit = closed }) (record { answer = 0; unit = fresh }))
       go true f = y (f refl)
       go false f = x
 
   -- answer and unit are those of the rules, whatever the arrays hold
-  pub opening-look : (acks bytes frames : List ℕ) → record { answer = (opened_of o).answer; unit = look (opened_of o).core acks bytes frames } ≡ there
+  pub opening-look : (acks bytes frames : List ℕ) → record { answer = answer_of (opened_of o).1; unit = look (opened_of o).0 acks bytes frames } ≡ there
   opening-look acks bytes frames =
-      opened-cases (λ r q. record { answer = r.answer; unit = look r.core acks bytes frames } ≡ q)
+      opened-cases (λ r q. record { answer = answer_of r.1; unit = look r.0 acks bytes frames } ≡ q)
       (ap (λ (s : State). record { answer = 2; unit = s }) (closed-look acks bytes frames))
       (λ f. ap (λ (s : State). record { answer = 0; unit = s }) (fresh-look o f.ranges.n-high acks bytes frames))
 

@@ -1,11 +1,11 @@
 -- What opening gives: the numbers of a fresh unit, or those of the closed one.
-use Rattle.std.specs.Prelude.{List, ℕ, zero, suc, ◌*◌, replicate}
+use Rattle.std.specs.Prelude.{List, ℕ, zero, suc, ◌*◌, replicate, ⊤, Ok, Err}
 use Rattle.rules.specs.Maps.{at}
 use Rattle.rules.specs.Calls.{decide, open_checks}
+use Rattle.answers.specs.Answers.{Answered, refusal_of}
 use Rattle.tables.specs.Rows.{with_column, raised}
 use Rattle.state.specs.declared.Core.{Core}
 use Rattle.state.specs.declared.Opening.{Opening}
-use Rattle.state.specs.declared.Opened.{Opened}
 
 -- the first n of eight numbers, and 0 past them
 abbrev pub up_to : ℕ → List ℕ → List ℕ
@@ -60,7 +60,7 @@ closed_core =
       order = record { pal = replicate 64 0; list = replicate 128 0; confirmed = 0; ordered = 0; waiting = 0 };
     }
 
-unfoldable pub opened_of : Opening → Opened
+-- the unit's numbers, and whether it opens
+unfoldable pub opened_of : Opening → Core × Answered ⊤
 opened_of o =
-    decide (open_checks o.me o.n o.w o.cid (at o.first)) (λ a. record { answer = a; core = closed_core })
-    (record { answer = 0; core = core_of o })
+    decide (open_checks o.me o.n o.w o.cid (at o.first)) (λ a. (closed_core, Err (refusal_of a))) (core_of o, Ok tt)

@@ -2,6 +2,7 @@
 use Rattle.std.specs.Prelude.{Bool, true, not, ◌&&◌, List, [], ◌∷◌, ℕ, ◌+◌, ◌-◌, ◌*◌, eqb, leb, ltb, get_or, drop}
 use Rattle.rules.specs.Maps.{between, all, among, at, every, least}
 use Rattle.rules.specs.Message.{last}
+use Rattle.rules.specs.Calls.{Check, ◌⇒◌}
 use Rattle.rules.specs.Sound.{ranges_fit}
 use Rattle.tables.specs.Rows.{row_of, none_zero}
 use Rattle.lists.specs.declared.Order.{Order}
@@ -58,3 +59,7 @@ sound_of c acks =
     && eqb (at c.req c.me) c.seq
     && window_of (own_low c) c.w c.n c.seq c.kept
     && places_of c.n c.w c.seqs c.lens acks c.order
+
+-- the check that comes first in each call
+abbrev pub not_sound : Core → List ℕ → List Check
+not_sound c acks = (not (sound_of c acks) ⇒ 1) ∷ []

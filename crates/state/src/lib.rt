@@ -6,10 +6,12 @@ mod soundness;
 
 ghost use Rattle.std.specs.Prelude.{◌≡◌};
 ghost use Rattle.rules.specs.Maps.{between};
+ghost use Rattle.answers.specs.Answers.{judged};
 ghost use Rattle.state.specs.Opening.{opened_of};
-ghost use Rattle.state.specs.Soundness.{low_in, sound_of};
+ghost use Rattle.state.specs.Soundness.{low_in, sound_of, not_sound};
 ghost use Rattle.state.specs.View.{free_places};
 
+use answers::Refusal;
 use lists;
 use lists::Order;
 use tables;
@@ -55,20 +57,12 @@ pub struct Opening {
     pub first: [u32; 8],
 }
 
-// Answer number and unit.
-#[derive(Clone, Copy)]
-pub struct Opened {
-    pub answer: u32,
-    pub core: Core,
-}
-
-// Opens a unit; out of range the answer is 2 and the unit closed, all numbers 0.
-pub fn opened_with(o: Opening) -> Opened
+// Opens a unit; out of range it is refused with 2, and the unit closed, all numbers 0.
+pub fn opened_with(o: Opening) -> (Core, Result<(), Refusal>)
     ensures { result ≡ opened_of o }
 {
     if fresh::can_open(o) {
-        let core = fresh::unit(o);
-        return Opened { answer: 0, core };
+        return (fresh::unit(o), Ok(()));
     }
     let closed = Opening {
         me: 0,
@@ -77,8 +71,7 @@ pub fn opened_with(o: Opening) -> Opened
         cid: 0,
         first: [0u32; 8],
     };
-    let core = fresh::unit(closed);
-    Opened { answer: 2, core }
+    (fresh::unit(closed), Err(Refusal::CannotOpen))
 }
 
 // minAL of the own index.
@@ -101,6 +94,17 @@ pub fn free_places(c: Core) -> u32
 {
     let order = c.order;
     tables::above(4 * (c.w as u32) * (c.n as u32), lists::taken(order) as u32)
+}
+
+// Refuses a unit that is not sound.
+pub fn checked(c: Core, acks: &[u32]) -> Result<(), Refusal>
+    ensures { result ≡ judged (not_sound c acks.now) tt }
+{
+    if sound(c, acks) {
+        Ok(())
+    } else {
+        Err(Refusal::Unsound)
+    }
 }
 
 // Whether the unit is sound.

@@ -1,0 +1,102 @@
+-- Refusals and the numbers 1 to 18 are one to one, and what checks with such numbers decide says the same of both.
+use Rattle.std.specs.Prelude.{Bool, true, false, cond, List, [], ◌∷◌, ◌≡◌, ◌≢◌, ⊤, ℕ, Ok, Err}
+use Rattle.std.specs.Result.{IsErrAnd}
+use native.Mathlib.Omega.{arith}
+use mathlib.Core.Path.{refl, sym, ap, ◌∙◌}
+use Rattle.rules.specs.Calls.{Check, decide}
+use Rattle.rules.proofs.CallsLaws.{Passed}
+use Rattle.rules.proofs.AlikeLaws.{Alike, decide-alike}
+use Rattle.answers.specs.declared.Refusal.{Refusal}
+use Rattle.answers.specs.declared.Refusal.TheVariants.{Unsound, CannotOpen, NotAFrame, OtherGroup, NoSuchUnit, OwnFrame, Impossible, AcceptedBefore, EarlierMissing, NamesMissing, AckFell, NoPlace, TooLong, NoNumberLeft, WindowShut, OutputTooShort, ForAnother, Nothing}
+use Rattle.answers.specs.Answers.{Answered, number_of, refusal_of, judged}
+
+pub refusal-number : (r : Refusal) → refusal_of (number_of r) ≡ r
+refusal-number Unsound = refl
+refusal-number CannotOpen = refl
+refusal-number NotAFrame = refl
+refusal-number OtherGroup = refl
+refusal-number NoSuchUnit = refl
+refusal-number OwnFrame = refl
+refusal-number Impossible = refl
+refusal-number AcceptedBefore = refl
+refusal-number EarlierMissing = refl
+refusal-number NamesMissing = refl
+refusal-number AckFell = refl
+refusal-number NoPlace = refl
+refusal-number TooLong = refl
+refusal-number NoNumberLeft = refl
+refusal-number WindowShut = refl
+refusal-number OutputTooShort = refl
+refusal-number ForAnother = refl
+refusal-number Nothing = refl
+
+pub number-not_zero : (r : Refusal) → number_of r ≢ 0
+number-not_zero Unsound = λ h. omega arith
+number-not_zero CannotOpen = λ h. omega arith
+number-not_zero NotAFrame = λ h. omega arith
+number-not_zero OtherGroup = λ h. omega arith
+number-not_zero NoSuchUnit = λ h. omega arith
+number-not_zero OwnFrame = λ h. omega arith
+number-not_zero Impossible = λ h. omega arith
+number-not_zero AcceptedBefore = λ h. omega arith
+number-not_zero EarlierMissing = λ h. omega arith
+number-not_zero NamesMissing = λ h. omega arith
+number-not_zero AckFell = λ h. omega arith
+number-not_zero NoPlace = λ h. omega arith
+number-not_zero TooLong = λ h. omega arith
+number-not_zero NoNumberLeft = λ h. omega arith
+number-not_zero WindowShut = λ h. omega arith
+number-not_zero OutputTooShort = λ h. omega arith
+number-not_zero ForAnother = λ h. omega arith
+number-not_zero Nothing = λ h. omega arith
+
+-- each check refuses with a number that a refusal has
+abbrev pub Numbered : List Check → Type 0
+Numbered [] = ⊤
+Numbered (c ∷ l) = (number_of (refusal_of c.answer) ≡ c.answer) × Numbered l
+
+-- f says what a result means: of each refusal with such a number, and of what is done
+module _ {A B : Type 0} (f : A → B) (refused : ℕ → A) (done : A) (refused' : ℕ → B) (same : (a : ℕ) → number_of (refusal_of a) ≡ a → f (refused a) ≡ refused' a) where
+  pub decide-numbered : (l : List Check) → Numbered l → f (decide l refused done) ≡ decide l refused' (f done)
+  decide-numbered [] n = refl
+  decide-numbered (c ∷ l) n = go c.holds (decide-numbered l n.1)
+    where
+      go : (t : Bool) → f (decide l refused done) ≡ decide l refused' (f done) → f (cond t (refused c.answer) (decide l refused done)) ≡ cond t (refused' c.answer) (decide l refused' (f done))
+      go true h = same c.answer n.0
+      go false h = h
+
+  -- among the results of a list that refuses alike
+  pub numbered-alike : (done' : B) (l m : List Check) → Numbered l → Alike l m → (Passed l → f done ≡ done') → f (decide l refused done) ≡ decide m refused' done'
+  numbered-alike done' l m n x d =
+      decide-numbered l n ∙ decide-alike (λ (b : B). b) refused' (f done) refused' done' (λ a. refl) l m x d
+
+-- what a caller hands on by `?`
+pub passed_on : {A : Type 0} (q : Answered A) (e : Refusal) → IsErrAnd q (λ d. d ≡ e) → q ≡ Err e
+passed_on (Ok x) e p = search
+passed_on (Err d) e p = ap (λ (z : Refusal). Err z) p
+
+pub same_error : {A : Type 0} {e d : Refusal} → ◌≡◌ {A = Answered A} (Err e) (Err d) → e ≡ d
+same_error h = search
+
+-- ---- checks made by a function of their own: what it answers tells what they decide
+
+module _ {B : Type 0} (refused : ℕ → B) (done : B) where
+  pub ok-decides : (l : List Check) (x : ⊤) → ◌≡◌ {A = Answered ⊤} (judged l tt) (Ok x) → decide l refused done ≡ done
+  ok-decides [] x h = refl
+  ok-decides (c ∷ l) x h = go c.holds (ok-decides l x) h
+    where
+      go : (t : Bool) → (◌≡◌ {A = Answered ⊤} (judged l tt) (Ok x) → decide l refused done ≡ done)
+          → ◌≡◌ {A = Answered ⊤} (cond t (Err (refusal_of c.answer)) (judged l tt)) (Ok x)
+          → cond t (refused c.answer) (decide l refused done) ≡ done
+      go true f z = search
+      go false f z = f z
+
+  pub err-decides : (l : List Check) → Numbered l → (e : Refusal) → ◌≡◌ {A = Answered ⊤} (judged l tt) (Err e) → decide l refused done ≡ refused (number_of e)
+  err-decides [] n e h = search
+  err-decides (c ∷ l) n e h = go c.holds (err-decides l n.1 e) h
+    where
+      go : (t : Bool) → (◌≡◌ {A = Answered ⊤} (judged l tt) (Err e) → decide l refused done ≡ refused (number_of e))
+          → ◌≡◌ {A = Answered ⊤} (cond t (Err (refusal_of c.answer)) (judged l tt)) (Err e)
+          → cond t (refused c.answer) (decide l refused done) ≡ refused (number_of e)
+      go true f z = ap refused (sym n.0 ∙ ap number_of (same_error z))
+      go false f z = f z

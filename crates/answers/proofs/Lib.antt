@@ -1,0 +1,2 @@
+-- Laws of refusals and their numbers.
+pub mod AnswersLaws

@@ -6,9 +6,11 @@ use Prim.Native.Nat.{ℕ}
 use Rattle.rules.specs.Fields.{table, row_of}
 use Rattle.rules.specs.Message.{decode}
 use Rattle.frame.specs.declared.Frame.{Frame}
-use Rattle.std.specs.Prelude.{Option}
+use Rattle.std.specs.Prelude.{Option, Result}
 use Rattle.frame.specs.declared.table.Row.{Row}
-use Rattle.frame.specs.Table.{line_of, has, length_fits}
+use Rattle.frame.specs.declared.table.Kind.{Kind}
+use Rattle.frame.specs.declared.table.UnknownKind.{UnknownKind}
+use Rattle.frame.specs.Table.{line_of, code_of, kind_of, is_of, has, length_fits}
 use Rattle.frame.specs.Frame.{frame_of, payload_of}
 use Rattle.frame.specs.Export.{Exported}
 
@@ -24,6 +26,16 @@ payload-determined l r q a b = one_value a b
 
 pub row-of-determined : (t : ℕ) (r q : Row) → r ≡ line_of (row_of table t) → q ≡ line_of (row_of table t) → r ≡ q
 row-of-determined t r q a b = one_value a b
+
+pub is-of-determined : (x : Row) (k : Kind) (r q : Bool) → r ≡ is_of x k → q ≡ is_of x k → r ≡ q
+is-of-determined x k r q a b = one_value a b
+
+-- the number of a kind, and the kind of a number
+pub code-determined : (k : Kind) (r q : ℕ) → r ≡ code_of k → q ≡ code_of k → r ≡ q
+code-determined k r q a b = one_value a b
+
+pub kind-determined : (n : ℕ) (r q : Result Kind UnknownKind) → r ≡ kind_of n → q ≡ kind_of n → r ≡ q
+kind-determined n r q a b = one_value a b
 
 pub has-tag-determined : (t k : ℕ) (r q : Bool) → r ≡ has t k → q ≡ has t k → r ≡ q
 has-tag-determined t k r q a b = one_value a b

@@ -24,16 +24,17 @@ use Rattle.frame.proofs.Numbers.{length-eight}
 use Rattle.frame.proofs.Reading.{message-is, request-is, data-at, request-at}
 use Rattle.rules.proofs.StoresLaws.{sets-++, sets-written}
 
--- ---- put_numbers
+-- ---- a part written over is its stores
 
--- a part written over is its stores
-over-sets : (d l : List ℕ) (at k : ℕ) → length l ≡ k → at + k ≤ length d → put_mid at k d l ≡ sets d at l
+pub over-sets : (d l : List ℕ) (at k : ℕ) → length l ≡ k → at + k ≤ length d → put_mid at k d l ≡ sets d at l
 over-sets d l at k e h =
     sym
     (sets-eq l d at (omega arith)
     ∙ ap (λ i. take at d ++ l ++ drop (at + i) d) e
     ∙ ap (λ r. take at d ++ l ++ r) (sym (drop-drop k at d))
     ∙ append_assoc (take at d) l (drop k (drop at d)))
+
+-- ---- put_numbers
 
 length-eighteen : (k : ℕ) (h : Head) (seq : ℕ) (after : List ℕ) → length h.ack ≡ 8 → length after ≡ 5 → length (eighteen k h seq after) ≡ 18
 length-eighteen k h seq after e f = omega (arith, length-append h.ack after)

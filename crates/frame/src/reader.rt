@@ -60,7 +60,7 @@ pub fn well_formed(s: &[u8], kind: Kind) -> bool
     ensures { result ≡ fits table (tags_of table (code_of kind)) s.now }
 {
     let mut reader = Reader::new(s);
-    for tag in 1..=10u8 {
+    for tag in 1..=10 {
         if row_of(tag).is_of(kind) {
             let Some(field) = reader.next(tag) else {
                 return false;

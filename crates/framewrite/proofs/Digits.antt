@@ -1,55 +1,49 @@
 -- Numbers stored as bytes: one turn of each loop that writes them.
-use mathlib.Core.List.{List, [], ◌∷◌, ◌++◌}
-use mathlib.Core.Path.{◌≡◌, refl, sym, ap, subst, ◌∙◌}
-use Prim.Native.Nat.{ℕ, suc, ◌+◌, ◌-◌, ◌*◌, ◌/◌, ◌%◌, ◌^◌, ◌≤◌, ◌<◌}
-use native.Mathlib.Nat.{pow-succ'}
+use mathlib.Core.List.{List, ◌++◌}
+use mathlib.Core.Path.{◌≡◌, refl, sym, ap, ◌∙◌}
+use Prim.Native.Nat.{ℕ, zero, suc, ◌+◌, ◌-◌, ◌*◌, ◌/◌, ◌%◌, ◌^◌, ◌≤◌, ◌<◌}
 use native.Mathlib.Omega.{arith}
-use lib.ListN.{length, get_or, drop, set, length-append, length-set}
-use lib.Seq.{sets, drop-cons, drop-length}
+use lib.ListN.{length, get_or, take, drop, length-append}
+use lib.Seq.{sets, take_all, drop-cons, drop-length}
+use borrow.Rule.Slice.PartMut.{put_mid}
+use Rattle.std.specs.Int.{w32, to_be_bytes}
+use Rattle.frame.proofs.Handing.{over-sets}
 use Rattle.rules.specs.Bytes.{bytes, all_bytes}
-use Rattle.rules.proofs.BytesLaws.{length-bytes, bytes-suc, length-all_bytes}
-use Rattle.rules.proofs.StoresLaws.{sets-++, set-sets}
+use Rattle.rules.proofs.BytesLaws.{length-bytes, length-all_bytes}
+use Rattle.rules.proofs.StoresLaws.{sets-++}
 
--- ---- a number of w bytes: j are left, and they say `left`
+-- ---- a number of w bytes: the last w of its four
 
-pub record Digits (d₀ : List ℕ) (at w x : ℕ) (d : List ℕ) (j left : ℕ) : Type 0 where
-  pub few : j ≤ w
-  pub small : left < 256 ^ j
-  pub long : length d ≡ length d₀
-  pub rest : sets d at (bytes j left) ≡ sets d₀ at (bytes w x)
+low-bytes : (w x : ℕ) → w ≤ 4 → x < 256 ^ w → drop (4 - w) (to_be_bytes w32 x) ≡ bytes w x
+low-bytes zero x h l = refl
+low-bytes (suc zero) x h l =
+    let a : x % 256 ≡ x / 1 = omega arith in
+    cc
+low-bytes (suc (suc zero)) x h l =
+    let a : x / 256 % 256 ≡ x / 256 = omega arith in
+    let b : x % 256 ≡ x % 256 / 1 = omega arith in
+    cc
+low-bytes (suc (suc (suc zero))) x h l =
+    let a : x / 65536 % 256 ≡ x / 65536 = omega arith in
+    let b : x / 256 % 256 ≡ x % 65536 / 256 = omega arith in
+    let c : x % 256 ≡ x % 65536 % 256 / 1 = omega arith in
+    cc
+low-bytes (suc (suc (suc (suc zero)))) x h l =
+    let a : x / 16777216 % 256 ≡ x / 16777216 = omega arith in
+    let b : x / 65536 % 256 ≡ x % 16777216 / 65536 = omega arith in
+    let c : x / 256 % 256 ≡ x % 16777216 % 65536 / 256 = omega arith in
+    let d : x % 256 ≡ x % 16777216 % 65536 % 256 / 1 = omega arith in
+    cc
+low-bytes (suc (suc (suc (suc (suc w))))) x h l = absurd (omega arith)
 
-pub all_digits : (d : List ℕ) (at w x : ℕ) → x < 256 ^ w → Digits d at w x d w x
-all_digits d at w x h = record { few = omega arith; small = h; long = refl; rest = refl }
-
--- the last of them is stored
-last_byte : (d : List ℕ) (at j left : ℕ) → left < 256 ^ suc j → sets (set d (at + j) (left % 256)) at (bytes j (left / 256)) ≡ sets d at (bytes (suc j) left)
-last_byte d at j left h =
-    let front = bytes j (left / 256) in
-    let n : length front ≡ j = length-bytes j (left / 256) in
-    sym (set-sets d at front (at + j) (left % 256) (omega arith))
-    ∙ ap (λ i. set (sets d at front) (at + i) (left % 256)) (sym n)
-    ∙ sets-++ d at front (left % 256 ∷ [])
-    ∙ ap (sets d at) (sym (bytes-suc j left h))
-
-module _ (d₀ : List ℕ) (at w x : ℕ) (d : List ℕ) (j left : ℕ) (r : Digits d₀ at w x d j left) where
-  pub one-digit : 0 < j → (b : ℕ) → b ≡ left % 256 → Digits d₀ at w x (set d (at + (j - 1)) b) (j - 1) (left / 256)
-  one-digit h b e =
-      let i = j - 1 in
-      let next : j ≡ suc i = omega arith in
-      let small : left < 256 ^ suc i = subst (λ n. left < 256 ^ n) next r.small in
-      record {
-        few = omega (arith, r.few);
-        small = omega (arith, small, pow-succ' 256 i);
-        long = length-set d (at + i) b ∙ r.long;
-        rest =
-            ap (λ c. sets (set d (at + i) c) at (bytes i (left / 256))) e
-            ∙ last_byte d at i left small
-            ∙ ap (λ n. sets d at (bytes n left)) (sym next)
-            ∙ r.rest;
-      }
-
-  pub no_digit : j ≡ 0 → d ≡ sets d₀ at (bytes w x)
-  no_digit e = ap (λ n. sets d at (bytes n left)) (sym e) ∙ r.rest
+pub number-stored : (d : List ℕ) (at w k x : ℕ) (b : List ℕ) → w ≤ 4 → x < 256 ^ w → at + w ≤ length d → k ≡ w → b ≡ take (4 - (4 - w)) (drop (4 - w) (to_be_bytes w32 x))
+    → put_mid at k d b ≡ sets d at (bytes w x)
+number-stored d at w k x b h l room n e =
+    let w-is : 4 - (4 - w) ≡ w = omega arith in
+    let b-is : b ≡ bytes w x =
+    e ∙ ap (λ r. take (4 - (4 - w)) r) (low-bytes w x h l) ∙ take_all (4 - (4 - w)) (bytes w x) (omega (arith, length-bytes w x)) in
+    let as-long : length b ≡ k = ap length b-is ∙ omega (arith, length-bytes w x) in
+    over-sets d b at k as-long (omega arith) ∙ ap (sets d at) b-is
 
 -- ---- numbers of w bytes each: i are stored, and `to` is the place of the next
 

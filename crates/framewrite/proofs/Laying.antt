@@ -6,10 +6,14 @@ use native.Mathlib.Omega.{arith}
 use lib.ListN.{length}
 use lib.Seq.{sets}
 use Rattle.rules.specs.Bytes.{bytes, all_bytes}
-use Rattle.rules.specs.Fields.{table, row_of, field}
+use mathlib.Core.Bool.{Bool, true}
+use lib.Dec.{leb}
+use borrow.Author.Tests.{leb-true}
+use Rattle.rules.specs.Maps.{all}
+use Rattle.rules.specs.Fields.{Row as Line, table, row_of, field}
 use Rattle.rules.specs.Lawful.{Each}
 use Rattle.rules.proofs.BytesLaws.{length-all_bytes, all_bytes-one}
-use Rattle.rules.proofs.FieldsLaws.{usable-row_of}
+use Rattle.rules.proofs.FieldsLaws.{all-row_of, usable-row_of}
 use Rattle.rules.proofs.MessageLaws.{table-usable}
 use Rattle.frame.specs.declared.table.Row.{Row}
 use Rattle.frame.specs.Table.{line_of}
@@ -24,6 +28,17 @@ field_stored d d₁ d₂ p t n c e e₁ e₂ =
     ∙ sets-++ d p (t ∷ bytes 2 n) c
     ∙ ap (λ k. sets d p (t ∷ bytes 2 k ++ c)) (sym e)
 
+-- the test of the table: no width is over 4
+abbrev narrow : Line → Bool
+narrow r = leb r.width 4
+
+table-narrow : all narrow table ≡ true
+unfolding table
+table-narrow = refl
+
+widths : (t : ℕ) → (row_of table t).width ≤ 4
+widths t = leb-true _ _ (all-row_of narrow refl table table-narrow t)
+
 -- numbers of the width that the table says
 module _ (t : ℕ) (v : List ℕ) (p : ℕ) (d : List ℕ) (room : FieldRoom t v p d) (r : Row) (e : r ≡ line_of (row_of table t)) where
   width_is : (row_of table t).width ≡ r.width
@@ -31,6 +46,9 @@ module _ (t : ℕ) (v : List ℕ) (p : ℕ) (d : List ℕ) (room : FieldRoom t v
 
   pub numbers-short : r.width * length v < 65536
   numbers-short = rw width_is at (let h : (row_of table t).width * length v < 65536 = omega (arith, room.content.greatest, (usable-row_of table table-usable t).short) in h)
+
+  pub numbers-width : r.width ≤ 4
+  numbers-width = omega (arith, width_is, widths t)
 
   pub numbers-narrow : Each (λ x. x < 256 ^ r.width) v
   numbers-narrow = subst (λ w. Each (λ x. x < 256 ^ w) v) width_is room.content.each

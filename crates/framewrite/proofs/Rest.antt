@@ -12,7 +12,7 @@ use Rattle.rules.specs.Fields.{table, row_of, tags_of, print}
 use Rattle.rules.specs.Lawful.{Each, Bytes, Contents}
 use Rattle.rules.proofs.BytesLaws.{length-all_bytes}
 use Rattle.rules.proofs.FieldsLaws.{tags_left, size, length-print}
-use Rattle.frame.specs.Table.{has}
+use Rattle.frame.specs.Table.{code_of, has}
 use Rattle.frame.proofs.Lines.{tags-step, tags-end}
 use Rattle.rules.proofs.StoresLaws.{sets-++}
 use Rattle.framewrite.specs.declared.fields.Singles.{Singles}
@@ -79,7 +79,7 @@ pub record Ahead (m : Singles) (ack text d₀ d : List ℕ) (at tag : ℕ) : Typ
   pub low : 1 ≤ tag
   pub high : tag ≤ 11
   pub long : length d ≡ length d₀
-  pub left : Left (content_of m ack text) (tags_left table tag m.kind) d at (sets d₀ 0 (fields_of m ack text))
+  pub left : Left (content_of m ack text) (tags_left table tag (code_of m.kind)) d at (sets d₀ 0 (fields_of m ack text))
 
 pub all-ahead : (m : Singles) (ack text d : List ℕ) → FieldsRoom m ack text d → Each (λ x. x < 256 ^ 4) ack → Bytes text → Ahead m ack text d d 0 1
 unfolding tags_of
@@ -91,24 +91,24 @@ all-ahead m ack text d r a b =
       left =
           record {
             contents = r.contents a b;
-            room = omega (arith, r.room, length-print table (tags_of table m.kind) (contents_of m ack text));
+            room = omega (arith, r.room, length-print table (tags_of table (code_of m.kind)) (contents_of m ack text));
             rest = refl;
           };
     }
 
 module _ (m : Singles) (ack text d₀ d : List ℕ) (at tag : ℕ) (r : Ahead m ack text d₀ d at tag) where
   module _ (h : tag ≤ 10) where
-    pub passed-by : has tag m.kind ≡ false → Ahead m ack text d₀ d at (tag + 1)
+    pub passed-by : has tag (code_of m.kind) ≡ false → Ahead m ack text d₀ d at (tag + 1)
     passed-by n =
-        record { low = omega arith; high = omega arith; long = r.long; left = passed _ tag m.kind r.low h d at _ r.left n }
+        record { low = omega arith; high = omega arith; long = r.long; left = passed _ tag (code_of m.kind) r.low h d at _ r.left n }
 
-    pub room-ahead : has tag m.kind ≡ true → FieldRoom tag (content_of m ack text tag) at d
-    room-ahead y = field_room _ tag m.kind r.low h d at _ r.left y
+    pub room-ahead : has tag (code_of m.kind) ≡ true → FieldRoom tag (content_of m ack text tag) at d
+    room-ahead y = field_room _ tag (code_of m.kind) r.low h d at _ r.left y
 
-    pub one-laid : has tag m.kind ≡ true → (next : ℕ) (d' : List ℕ) → FieldWritten tag (content_of m ack text tag) at d next d' → length d' ≡ length d
+    pub one-laid : has tag (code_of m.kind) ≡ true → (next : ℕ) (d' : List ℕ) → FieldWritten tag (content_of m ack text tag) at d next d' → length d' ≡ length d
         → Ahead m ack text d₀ d' next (tag + 1)
     one-laid y next d' w k =
-        record { low = omega arith; high = omega arith; long = k ∙ r.long; left = laid _ tag m.kind r.low h d at _ r.left y next d' w k }
+        record { low = omega arith; high = omega arith; long = k ∙ r.long; left = laid _ tag (code_of m.kind) r.low h d at _ r.left y next d' w k }
 
   pub none_ahead : tag ≡ 11 → d ≡ sets d₀ 0 (fields_of m ack text)
-  none_ahead e = (subst (λ ts. Left (content_of m ack text) ts d at (sets d₀ 0 (fields_of m ack text))) (tags-end tag m.kind e) r.left).rest
+  none_ahead e = (subst (λ ts. Left (content_of m ack text) ts d at (sets d₀ 0 (fields_of m ack text))) (tags-end tag (code_of m.kind) e) r.left).rest

@@ -21,10 +21,7 @@ pub fn count_fits(n: usize) -> bool
     let row = row_of(ACK);
     let width = row.width as usize;
     let most = row.greatest as usize / width;
-    if most < n {
-        return false;
-    }
-    length_fits(ACK, width * n)
+    n <= most && length_fits(ACK, width * n)
 }
 
 // Writes a tag, and the length of its content.
@@ -50,6 +47,8 @@ pub fn put_field(d: &mut [u8], at: usize, tag: u8, xs: &[u32]) -> usize
 }
 
 // Writes the data field, and gives the place after it.
+// Kept: beside put_field, no plainer as one function. Data are copied whole; as numbers of a width they would go one by one
+// through a trait of u8 and u32.
 pub fn put_text(d: &mut [u8], at: usize, text: &[u8]) -> usize
     requires { FieldRoom 10 text.now at d.old }
     ensures { FieldWritten 10 text.now at d.old result d.new }

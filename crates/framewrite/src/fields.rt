@@ -5,12 +5,12 @@ ghost use Rattle.framewrite.specs.Field.{FieldRoom, FieldWritten};
 ghost use Rattle.framewrite.specs.Fields.{number_of, content_of, FieldsRoom, fields_of};
 
 use crate::field::{ACK, DATA, put_field, put_text};
-use frame::table::has_tag;
+use frame::table::{Kind, row_of};
 
 // The numbers of a message that stand alone in their fields; what the kind lacks is not read.
 #[derive(Clone, Copy)]
 pub struct Singles {
-    pub kind: u8,
+    pub kind: Kind,
     pub cid: u32,
     pub src: u8,
     pub seq: u32,
@@ -25,12 +25,12 @@ fn number_of(m: Singles, tag: u8) -> u32
 {
     match tag {
         1 => 1,
-        2 => m.kind as u32,
+        2 => u32::from(u8::from(m.kind)),
         3 => m.cid,
-        4 => m.src as u32,
+        4 => u32::from(m.src),
         5 => m.seq,
-        7 => m.buf as u32,
-        8 => m.lsrc as u32,
+        7 => u32::from(m.buf),
+        8 => u32::from(m.lsrc),
         _ => m.lseq,
     }
 }
@@ -55,13 +55,10 @@ pub fn put_fields(d: &mut [u8], m: Singles, ack: &[u32], text: &[u8])
     requires { FieldsRoom m ack.now text.now d.old }
     ensures { d.new ≡ sets d.old 0 (fields_of m ack.now text.now) }
 {
-    let kind = m.kind;
     let mut at = 0;
-    let mut tag = 1u8;
-    while tag <= 10 {
-        if has_tag(tag, kind) {
+    for tag in 1..=10 {
+        if row_of(tag).is_of(m.kind) {
             at = put_tag(d, at, tag, m, ack, text);
         }
-        tag += 1;
     }
 }

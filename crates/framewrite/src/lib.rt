@@ -1,19 +1,39 @@
 // Writing frames, by the table of tags that the reader has.
 #![tactic(auto)]
 
-ghost use Rattle.std.specs.Prelude.{take};
-ghost use Rattle.framewrite.specs.Writing.{message_of, request_of, data_written, request_written, Wrote};
+ghost use Rattle.std.specs.Prelude.{◌≡◌, ◌+◌, ◌*◌, take};
+ghost use Rattle.answers.specs.Answers.{judged};
+ghost use Rattle.framewrite.specs.Writing.{frame_checks, message_of, request_of, data_written, request_written, Wrote};
 
 mod field;
 mod fields;
 mod number;
 
+use answers::Refusal;
 use field::{DATA, count_fits};
 use fields::{Singles, put_fields};
-use frame::table::length_fits;
+use frame::table::{Kind, length_fits};
 
-// The frame of a data message, written to the front of the output: 0; 5 where n is not 2 to 8, 13 where the data are
-// over 48 bytes, 16 where the output is too short. The first n of ack count.
+// The length of a frame with n numbers of ACK, so many bytes of data and `others` bytes beside, where `room` bytes hold
+// it. Refused with NoSuchUnit where n is not 2 to 8, TooLong where the data are over 48 bytes, OutputTooShort.
+fn length_of(others: u8, n: usize, text_len: usize, room: usize) -> Result<usize, Refusal>
+    ensures { result ≡ judged (frame_checks others n text_len room) (others + 4 * n + text_len) }
+{
+    if !count_fits(n) {
+        return Err(Refusal::NoSuchUnit);
+    }
+    if !length_fits(DATA, text_len) {
+        return Err(Refusal::TooLong);
+    }
+    let len = usize::from(others) + 4 * n + text_len;
+    if room < len {
+        return Err(Refusal::OutputTooShort);
+    }
+    Ok(len)
+}
+
+// The frame of a data message, written to the front of the output, and its length. Refused with NoSuchUnit where n is not
+// 2 to 8, TooLong where the data are over 48 bytes, OutputTooShort where it does not fit. The first n of ack count.
 pub fn write_data(
     out: &mut [u8],
     cid: u32,
@@ -23,21 +43,12 @@ pub fn write_data(
     n: usize,
     buf: u16,
     text: &[u8],
-) -> u32
+) -> Result<usize, Refusal>
     ensures { Wrote (data_written n (message_of cid src seq (take n ack.now) buf text.now) out.old) result out.new }
 {
-    let all = &ack[..];
-    if !count_fits(n) {
-        return 5;
-    }
-    if !length_fits(DATA, text.len()) {
-        return 13;
-    }
-    if out.len() < 37 + 4 * n + text.len() {
-        return 16;
-    }
+    let len = length_of(37, n, text.len(), out.len())?;
     let m = Singles {
-        kind: 1,
+        kind: Kind::Data,
         cid,
         src,
         seq,
@@ -45,8 +56,8 @@ pub fn write_data(
         lsrc: 0,
         lseq: 0,
     };
-    put_fields(out, m, &all[..n], text);
-    0
+    put_fields(out, m, &ack[..n], text);
+    Ok(len)
 }
 
 // The frame of a request, in the same way.
@@ -58,18 +69,12 @@ pub fn write_request(
     n: usize,
     lsrc: u8,
     lseq: u32,
-) -> u32
+) -> Result<usize, Refusal>
     ensures { Wrote (request_written n (request_of cid src (take n ack.now) lsrc lseq) out.old) result out.new }
 {
-    let all = &ack[..];
-    if !count_fits(n) {
-        return 5;
-    }
-    if out.len() < 33 + 4 * n {
-        return 16;
-    }
+    let len = length_of(33, n, 0, out.len())?;
     let m = Singles {
-        kind: 2,
+        kind: Kind::Request,
         cid,
         src,
         seq: 0,
@@ -77,6 +82,6 @@ pub fn write_request(
         lsrc,
         lseq,
     };
-    put_fields(out, m, &all[..n], b"");
-    0
+    put_fields(out, m, &ack[..n], b"");
+    Ok(len)
 }

@@ -4,37 +4,23 @@ ghost use Rattle.std.proofs.lemmas.List.Edits.{sets};
 ghost use Rattle.rules.specs.Bytes.{bytes, all_bytes};
 ghost use Rattle.rules.specs.Lawful.{Each};
 
-fn byte(x: u32) -> u8
-    requires { x < 256 }
-    ensures { result ≡ x }
-{
-    x as u8
-}
-
-// Writes a number of w bytes at a place, the last byte first.
+// Writes a number of w bytes at a place.
 pub fn put_number(d: &mut [u8], at: usize, w: usize, x: u32)
-    requires { (x < 256 ^ w) × (at + w ≤ length d.old) }
+    requires { (w ≤ 4) × (x < 256 ^ w) × (at + w ≤ length d.old) }
     ensures { d.new ≡ sets d.old at (bytes w x) }
 {
-    let mut j = w;
-    let mut left = x;
-    while 0 < j {
-        j -= 1;
-        d[at + j] = byte(left % 256);
-        left = left / 256;
-    }
+    let all = x.to_be_bytes();
+    d[at..at + w].copy_from_slice(&all[4 - w..]);
 }
 
 // Writes numbers of w bytes each from a place on.
 pub fn put_numbers(d: &mut [u8], at: usize, w: usize, xs: &[u32])
-    requires { (Each (λ x. x < 256 ^ w) xs.now) × (at + w * length xs.now ≤ length d.old) }
+    requires { (w ≤ 4) × (Each (λ x. x < 256 ^ w) xs.now) × (at + w * length xs.now ≤ length d.old) }
     ensures { d.new ≡ sets d.old at (all_bytes w xs.now) }
 {
-    let mut i = 0;
     let mut to = at;
-    while i < xs.len() {
-        put_number(d, to, w, xs[i]);
-        to = to + w;
-        i += 1;
+    for x in xs {
+        put_number(d, to, w, *x);
+        to += w;
     }
 }

@@ -1,7 +1,7 @@
 -- `put_field` meets its contract.
 use native.Mathlib.Omega.{arith}
 use mathlib.Core.Path.{◌∙◌}
-use Rattle.framewrite.proofs.Laying.{numbers-short, numbers-narrow, numbers-room, numbers-written}
+use Rattle.framewrite.proofs.Laying.{numbers-short, numbers-width, numbers-narrow, numbers-room, numbers-written}
 use Rattle.framewrite.proofs.field.put_field.Goals as goal
 
 pub overflow_mul-n : goal.overflow_mul-n
@@ -14,7 +14,7 @@ pub overflow_add-at : goal.overflow_add-at
 overflow_add-at c = omega (arith, numbers-room _ _ _ _ c.requires _ c.row_of-row.ensures)
 
 pub put_numbers-requires : goal.put_numbers-requires
-put_numbers-requires c = (numbers-narrow _ _ _ _ c.requires _ c.row_of-row.ensures, omega (arith, numbers-room _ _ _ _ c.requires _ c.row_of-row.ensures, c.put_front.auto.d))
+put_numbers-requires c = (numbers-width _ _ _ _ c.requires _ c.row_of-row.ensures, numbers-narrow _ _ _ _ c.requires _ c.row_of-row.ensures, omega (arith, numbers-room _ _ _ _ c.requires _ c.row_of-row.ensures, c.put_front.auto.d))
 
 pub overflow_add-result : goal.overflow_add-result
 overflow_add-result c = omega (arith, numbers-room _ _ _ _ c.requires _ c.row_of-row.ensures)

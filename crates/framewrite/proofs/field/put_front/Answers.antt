@@ -6,7 +6,7 @@ use lib.ListN.{length-set}
 use Rattle.framewrite.proofs.field.put_front.Goals as goal
 
 pub put_number-requires : goal.put_number-requires
-put_number-requires c = (omega arith, simp length-set (omega arith))
+put_number-requires c = (omega arith, omega arith, simp length-set (omega arith))
 
 pub shape_of-d : goal.shape_of-d
 shape_of-d c = c.put_number.auto.d ∙ simp length-set

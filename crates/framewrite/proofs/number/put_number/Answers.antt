@@ -1,15 +1,14 @@
+-- `put_number` meets its contract.
 use native.Mathlib.Omega.{arith}
-use Rattle.framewrite.proofs.Digits.{all_digits, one-digit, no_digit}
+use Prim.Native.Nat.{◌-◌}
+use mathlib.Core.Path.{ap, ◌∙◌}
+use lib.ListN.{take, drop}
+use Rattle.framewrite.proofs.Digits.{number-stored}
 use Rattle.framewrite.proofs.number.put_number.Goals as goal
 
-pub loop-j-init : goal.loop-j-init
-loop-j-init c = all_digits _ _ _ _ c.requires.0
-
-pub loop-j-preserved : goal.loop-j-preserved
-loop-j-preserved c = one-digit _ _ _ _ _ _ _ c.loop-j.invariant c.loop-j-test.true _ c.byte.ensures
-
-pub shape_of-d : goal.shape_of-d
-shape_of-d c = c.loop-j.invariant.long
-
 pub returns : goal.returns
-returns c = no_digit _ _ _ _ _ _ _ c.loop-j.invariant (omega arith)
+returns c =
+    let a = c.args in
+    let r = c.requires in
+    number-stored a.d.now a.at a.w _ a.x _ r.0 r.1 r.2 (omega arith)
+    (c.copy_from_slice.ensures.after ∙ ap (λ l. take (4 - (4 - a.w)) (drop (4 - a.w) l)) c.to_be_bytes-all.ensures)

@@ -191,14 +191,14 @@ module _ (n : ℕ) (r : Request) (out : List ℕ) where
 abbrev singles_of : Message → Singles
 singles_of m = record { kind = Data; cid = m.cid; src = m.src; seq = m.seq; buf = m.buf; lsrc = 0; lseq = 0 }
 
-abbrev request_of : Request → Singles
-request_of r = record { kind = Request'; cid = r.cid; src = r.src; seq = 0; buf = 0; lsrc = r.lsrc; lseq = r.lseq }
+abbrev asked_of : Request → Singles
+asked_of r = record { kind = Request'; cid = r.cid; src = r.src; seq = 0; buf = 0; lsrc = r.lsrc; lseq = r.lseq }
 
 pub data-fields : (m : Message) → fields_of (singles_of m) m.ack m.text ≡ encode (message m)
 unfolding content_of encode table tags_of
 data-fields m = refl
 
-pub request-fields : (r : Request) → fields_of (request_of r) r.ack [] ≡ encode (request r)
+pub request-fields : (r : Request) → fields_of (asked_of r) r.ack [] ≡ encode (request r)
 unfolding content_of encode table tags_of
 request-fields r = refl
 
@@ -215,7 +215,7 @@ module _ (n : ℕ) (b : between 2 8 n ≡ true) (out : List ℕ) where
       }
 
   pub request-room : (r : Request) → length r.ack ≡ n → r.cid ≤ last → r.src < 256 → r.lsrc < 256 → r.lseq ≤ last
-      → 33 + 4 * n ≤ length out → FieldsRoom (request_of r) r.ack [] out
+      → 33 + 4 * n ≤ length out → FieldsRoom (asked_of r) r.ack [] out
   unfolding content_of table tags_of
   request-room r e cid src lsrc lseq room =
       record {

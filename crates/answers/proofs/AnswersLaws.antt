@@ -2,10 +2,12 @@
 use Rattle.std.specs.Prelude.{Bool, true, false, cond, List, [], ◌∷◌, ◌≡◌, ◌≢◌, ⊤, ℕ, Ok, Err}
 use Rattle.std.specs.Result.{IsErrAnd}
 use native.Mathlib.Omega.{arith}
+use mathlib.Core.Bool.{true≢false}
 use mathlib.Core.Path.{refl, sym, ap, ◌∙◌}
 use Rattle.rules.specs.Calls.{Check, decide}
 use Rattle.rules.proofs.CallsLaws.{Passed}
 use Rattle.rules.proofs.AlikeLaws.{Alike, decide-alike}
+use Rattle.rules.proofs.DecideLaws.{decide-map}
 use Rattle.answers.specs.declared.Refusal.{Refusal}
 use Rattle.answers.specs.declared.Refusal.TheVariants.{Unsound, CannotOpen, NotAFrame, OtherGroup, NoSuchUnit, OwnFrame, Impossible, AcceptedBefore, EarlierMissing, NamesMissing, AckFell, NoPlace, TooLong, NoNumberLeft, WindowShut, OutputTooShort, ForAnother, Nothing}
 use Rattle.answers.specs.Answers.{Answered, number_of, refusal_of, judged}
@@ -65,6 +67,10 @@ module _ {A B : Type 0} (f : A → B) (refused : ℕ → A) (done : A) (refused'
       go true h = same c.answer n.0
       go false h = h
 
+  pub numbered-map : (done' : B) (l : List Check) → Numbered l → (Passed l → f done ≡ done') → f (decide l refused done) ≡ decide l refused' done'
+  numbered-map done' l n d =
+      decide-numbered l n ∙ decide-map (λ (b : B). b) refused' (f done) refused' done' l (λ a r. refl) d
+
   -- among the results of a list that refuses alike
   pub numbered-alike : (done' : B) (l m : List Check) → Numbered l → Alike l m → (Passed l → f done ≡ done') → f (decide l refused done) ≡ decide m refused' done'
   numbered-alike done' l m n x d =
@@ -100,3 +106,24 @@ module _ {B : Type 0} (refused : ℕ → B) (done : B) where
           → cond t (refused c.answer) (decide l refused done) ≡ refused (number_of e)
       go true f z = ap refused (sym n.0 ∙ ap number_of (same_error z))
       go false f z = f z
+
+err_not_ok : {e : Refusal} {x : ⊤} → ◌≡◌ {A = Answered ⊤} (Err e) (Ok x) → ⊥
+err_not_ok h = true≢false (let z : true ≡ false = search in z)
+
+pub ok_passes : (l : List Check) (x : ⊤) → ◌≡◌ {A = Answered ⊤} (judged l tt) (Ok x) → Passed l
+ok_passes [] x h = tt
+ok_passes (c ∷ l) x h = go c.holds refl (ok_passes l x) h
+  where
+    go : (t : Bool) → c.holds ≡ t → (◌≡◌ {A = Answered ⊤} (judged l tt) (Ok x) → Passed l)
+        → ◌≡◌ {A = Answered ⊤} (cond t (Err (refusal_of c.answer)) (judged l tt)) (Ok x) → (c.holds ≡ false) × Passed l
+    go true e f z = absurd (err_not_ok z)
+    go false e f z = (e, f z)
+
+-- a call judged by these checks
+module _ {A : Type 0} (done : A) (l : List Check) where
+  pub judged-ok : (x : ⊤) → ◌≡◌ {A = Answered ⊤} (judged l tt) (Ok x) → Ok done ≡ judged l done
+  judged-ok x h = sym (ok-decides _ _ l x h)
+
+  pub judged-err : Numbered l → (e : Refusal) → ◌≡◌ {A = Answered ⊤} (judged l tt) (Err e) → (q : Answered A) → IsErrAnd q (λ d. d ≡ e) → q ≡ judged l done
+  judged-err n e h q p =
+      passed_on q e p ∙ ap (λ (d : Refusal). Err d) (sym (refusal-number e)) ∙ sym (err-decides (λ a. Err (refusal_of a)) (Ok done) l n e h)

@@ -25,13 +25,13 @@ data_of m =
       len = length m.text;
     }
 
-abbrev pub asked_of : Request → Asked
-asked_of r = record { head = head_of r.cid r.src r.ack; lsrc = r.lsrc; lseq = r.lseq }
+abbrev pub request_of : Request → Asked
+request_of r = record { head = head_of r.cid r.src r.ack; lsrc = r.lsrc; lseq = r.lseq }
 
 unfoldable pub frame_of : maybe.Option Said → Option Frame
 frame_of none = None
 frame_of (some (message m)) = Some (Frame.Data (data_of m))
-frame_of (some (request r)) = Some (Frame.Request (asked_of r))
+frame_of (some (request r)) = Some (Frame.Request (request_of r))
 
 -- what frames of both kinds say, the length of ACK standing at p: CID at 11, SRC at 18; none where an ACK is 0
 unfoldable pub head_at : List ℕ → ℕ → Option Head

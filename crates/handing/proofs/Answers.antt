@@ -1,10 +1,11 @@
 -- One law for each way out of taking, asking and copying.
-use mathlib.Core.Bool.{true, false}
+use mathlib.Core.Bool.{Bool, true, false, cond}
 use mathlib.Core.List.{List}
 use mathlib.Core.Logic.{◌≢◌}
 use mathlib.Core.Path.{◌≡◌, refl}
 use Prim.Native.Nat.{ℕ, ◌+◌, ◌*◌, ◌≤◌, ◌<◌}
 use lib.ListN.{length, get_or, take}
+use lib.Dec.{ltb}
 use borrow.Author.Tests.{eq-eqb, ne_eqb, le-leb, lt-leb, lt-ltb, le-ltb}
 use Rattle.rules.specs.Maps.{between, at}
 use Rattle.rules.specs.Calls.{written}
@@ -12,14 +13,16 @@ use Rattle.rules.proofs.MapsLaws.{is-between}
 use Rattle.tables.specs.Rows.{part}
 use Rattle.lists.specs.declared.Order.{Order}
 use Rattle.lists.specs.Order.{sender_of, without_first}
-use Rattle.framewrite.specs.Writing.{request_of, request_written, Wrote}
+use Rattle.framewrite.specs.Writing.{Writing, request_of, request_written, Wrote}
 use Rattle.std.specs.Prelude.{Ok, Err}
 use Rattle.answers.specs.declared.Refusal.TheVariants.{Unsound, NoSuchUnit, OutputTooShort, Nothing}
+use Rattle.answers.specs.Answers.{Answered}
+use Rattle.rules.specs.Message.{request, encode}
 use Rattle.state.specs.declared.Core.{Core}
 use Rattle.state.specs.Soundness.{own_low, sound_of}
 use Rattle.state.proofs.RoomLaws.{sound-ranges}
 use Rattle.state.specs.Changed.{with_order}
-use Rattle.handing.specs.Handing.{Given, Gives, oldest_place, length_at, taking_of, asking_of, slot_for, copying_of}
+use Rattle.handing.specs.Handing.{Given, Gives, refusing, done_with, oldest_place, length_at, taking_of, asking_of, slot_for, copying_of}
 
 module _ {A : Type 0} where
   gives : (g : Given A) (r : A) (after : List ℕ) → g ≡ record { result = r; output = after } → Gives g r after
@@ -72,21 +75,25 @@ module _ (c : Core) (acks : List ℕ) (k : ℕ) (out : List ℕ) where
         unfolding asking_of
         asking-18 h = gives _ _ _ (rw (s, u, ne_eqb k c.me d, le-leb (at c.heard k) (at c.req k) h))
 
-        module _ (h : at c.req k < at c.heard k) where
-          pub asking-16 : length out < 33 + 4 * c.n → Gives (asking_of c acks k out) (Err OutputTooShort) out
-          unfolding asking_of
-          asking-16 l = gives _ _ _ (rw (s, u, ne_eqb k c.me d, lt-leb (at c.heard k) (at c.req k) h, lt-ltb (length out) (33 + 4 * c.n) l))
+        -- n is in range, so the writer refuses only where the output is too short
+        pub asking-written : at c.req k < at c.heard k → (x : ℕ) → x ≡ at c.heard k → (r : Answered ℕ) (after : List ℕ)
+            → Wrote (request_written c.n (request_of c.cid c.me (take c.n c.req) k x) out) r after
+            → Gives (asking_of c acks k out) r after
+        unfolding asking_of request_written
+        asking-written h x z r after w =
+            let e = sound-ranges c acks s in
+            let n = is-between 2 8 c.n e.n-low e.n-high in
+            rw (s, u, ne_eqb k c.me d, lt-leb (at c.heard k) (at c.req k) h, ← z)
+            (go (ltb (length out) (33 + 4 * c.n)) (rw n at w.gives) (rw n at w.leaves))
+          where
+            l : List ℕ
+            l = encode (request (request_of c.cid c.me (take c.n c.req) k x))
 
-          -- n is in range and the output long enough, so the writer answers 0
-          pub asking-0 : 33 + 4 * c.n ≤ length out → (x : ℕ) → x ≡ at c.heard k → (answer : ℕ) (after : List ℕ)
-              → Wrote (request_written c.n (request_of c.cid c.me (take c.n c.req) k x) out) answer after
-              → Gives (asking_of c acks k out) (Ok (33 + 4 * c.n)) after
-          unfolding asking_of request_written
-          asking-0 l x z answer after w =
-              let r = sound-ranges c acks s in
-              let n = is-between 2 8 c.n r.n-low r.n-high in
-              let t = le-ltb (length out) (33 + 4 * c.n) l in
-              gives _ _ _ (rw (s, u, ne_eqb k c.me d, lt-leb (at c.heard k) (at c.req k) h, t, rw (n, t) at w.leaves, z))
+            go : (t : Bool) → r ≡ (cond {A = Writing} t (record { given = Err OutputTooShort; output = out }) (record { given = Ok (length l); output = written out l })).given
+                → after ≡ (cond {A = Writing} t (record { given = Err OutputTooShort; output = out }) (record { given = Ok (length l); output = written out l })).output
+                → Gives (cond t (refusing out 16) (done_with (length l) l out)) r after
+            go true a b = record { result = a; output = b }
+            go false a b = record { result = a; output = b }
 
 -- ---- copying
 

@@ -1,8 +1,8 @@
 -- Asking means the rules' making of a request.
 use mathlib.Core.Bool.{true, false, not, ◌||◌}
 use mathlib.Core.List.{List}
-use mathlib.Core.Path.{◌≡◌, refl, sym, ap, ◌∙◌}
-use Prim.Native.Nat.{ℕ, ◌+◌, ◌*◌}
+use mathlib.Core.Path.{◌≡◌, refl, sym, ap}
+use Prim.Native.Nat.{ℕ}
 use native.Mathlib.Omega.{arith}
 use lib.Dec.{eqb}
 use lib.ListN.{length}
@@ -14,8 +14,7 @@ use Rattle.rules.specs.Steps.{asking}
 use Rattle.rules.specs.Calls.{refusal, make_checks, make_request}
 use Rattle.rules.proofs.AlikeLaws.{Alike}
 use Rattle.answers.proofs.AnswersLaws.{numbered-alike}
-use Rattle.rules.proofs.MapsLaws.{between-low, between-high, units_in, length-listed, or_left}
-use Rattle.rules.proofs.MessageLaws.{length-request}
+use Rattle.rules.proofs.MapsLaws.{between-low, between-high, units_in, or_left}
 use Rattle.state.specs.declared.Core.{Core}
 use Rattle.state.specs.View.{look}
 use Rattle.state.specs.Soundness.{sound_of}
@@ -39,10 +38,6 @@ module _ (c : Core) (acks bytes frames : List ℕ) (k : ℕ) (out : List ℕ) wh
     unfolding asking look
     requested long h = rw (take-units c.n c.req (omega (arith, (sound-ranges c acks h).n-high)), unit-number c.n k u c.heard)
 
-    size : 33 + 4 * c.n ≡ length (encode (request (asking s k)))
-    unfolding asking look
-    size = sym (length-request (asking s k) ∙ ap (λ (m : ℕ). 33 + 4 * m) (length-listed 1 c.n (units c.n (at c.req))))
-
   is-unit : not (between 1 c.n k) || eqb k c.me ≡ false → between 1 c.n k ≡ true
   is-unit e = not-false _ (or_left (not (between 1 c.n k)) (eqb k c.me) e)
 
@@ -56,5 +51,5 @@ module _ (c : Core) (acks bytes frames : List ℕ) (k : ℕ) (out : List ℕ) wh
   pub asking-means : length c.req ≡ 8 → handed_means s (asking_of c acks k out) ≡ make_request s k out
   unfolding asking_of make_request
   asking-means long =
-      numbered-alike (handed_means s) (refusing out) (done_with (33 + 4 * c.n) (encode (request (request_for c k))) out) _ (λ a e. ap (refusal 1 s out) e) _ (asking_checks c acks k out) (make_checks s k out) (refl, (refl, (refl, (refl, tt)))) alike
-      (λ passed. let u = is-unit passed.1.0 in rw (size u, requested u long (not-false _ passed.0)))
+      numbered-alike (handed_means s) (refusing out) (done_with (length (encode (request (request_for c k)))) (encode (request (request_for c k))) out) _ (λ a e. ap (refusal 1 s out) e) _ (asking_checks c acks k out) (make_checks s k out) (refl, (refl, (refl, (refl, tt)))) alike
+      (λ passed. rw (requested (is-unit passed.1.0) long (not-false _ passed.0)))

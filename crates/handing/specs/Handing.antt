@@ -80,7 +80,8 @@ asking_checks c acks k out =
 
 unfoldable pub asking_of : Core → List ℕ → ℕ → List ℕ → Given (Answered ℕ)
 asking_of c acks k out =
-    giving (asking_checks c acks k out) (33 + 4 * c.n) (encode (request (request_for c k))) out
+    let l : List ℕ = encode (request (request_for c k)) in
+    giving (asking_checks c acks k out) (length l) l out
 
 -- the slot of the kept frame of number x, and the frame's length
 abbrev pub slot_for : Core → ℕ → ℕ

@@ -67,13 +67,7 @@ pub fn asking(c: Core, acks: &[u32], k: u8, out: &mut [u8]) -> Result<usize, Ref
     if heard <= tables::at(&c.req, k) {
         return Err(Refusal::Nothing);
     }
-    let n = c.n as usize;
-    let len = 33 + 4 * n;
-    if out.len() < len {
-        return Err(Refusal::OutputTooShort);
-    }
-    write_request(out, c.cid, c.me, &c.req, n, k, heard);
-    Ok(len)
+    write_request(out, c.cid, c.me, &c.req, c.n as usize, k, heard)
 }
 
 // Copies the kept frame of number x to the front of the output, and gives its length.

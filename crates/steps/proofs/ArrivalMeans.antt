@@ -15,8 +15,8 @@ use Rattle.state.specs.Soundness.{sound_of}
 use Rattle.state.proofs.SoundLaws.{sound-look}
 use Rattle.frame.specs.Frame.{frame_of, payload_of}
 use Rattle.store.specs.Fits.{Sized}
-use Rattle.steps.specs.Arrival.{passing, frame_arrival, arrival_of}
-use Rattle.steps.specs.Means.{arrived_as}
+use Rattle.steps.specs.Arrival.{refusing, frame_arrival, arrival_of}
+use Rattle.steps.specs.Means.{arrived_at, arrived_as}
 use Rattle.steps.proofs.DataMeans.{data-means}
 use Rattle.steps.proofs.RequestMeans.{request-means}
 
@@ -29,14 +29,14 @@ unsound-arrival s (some (request r)) h = rw h
 
 pub arrival-means : (c : Core) (acks bytes frames : List ℕ) → Sized c acks bytes → (l : List ℕ)
     → arrived_as (arrival_of c acks (decode l)) acks bytes frames (payload_of (decode l)) ≡ arrive (look c acks bytes frames) l
-unfolding arrived_as arrival_of frame_arrival frame_of payload_of arrive
+unfolding arrived_at arrival_of frame_arrival frame_of payload_of arrive
 arrival-means c acks bytes frames Z l = go (decode l) refl (sound_of c acks) (sound-look c acks bytes frames)
   where
     s : State
     s = look c acks bytes frames
 
     go : (o : Option Said) → decode l ≡ o → (t : Bool) → t ≡ sound s
-        → arrived_as (cond t (frame_arrival c (frame_of o)) (passing 1 0 0 c)) acks bytes frames (payload_of o) ≡ arrive_said s o
+        → arrived_as (cond t (frame_arrival c (frame_of o)) (refusing c 1)) acks bytes frames (payload_of o) ≡ arrive_said s o
     go o e false h = sym (unsound-arrival s o (sym h))
     go none e true h = rw (← h)
     go (some (message p)) e true h = data-means c acks bytes frames Z p (decode-limits l p e) (sym h)

@@ -15,7 +15,7 @@ use Rattle.lists.proofs.TakenLaws.{taken_of-is}
 use Rattle.state.specs.declared.Core.{Core}
 use Rattle.state.specs.View.{place_at, look}
 use Rattle.state.proofs.LookLaws.{holds-look, shows-look}
-use Rattle.frame.specs.declared.Frame.{Frame}
+use Rattle.frame.specs.declared.Head.{Head}
 use Rattle.steps.specs.Checks.{of_group, no_place}
 
 not-and : (a b : Bool) → not (a && b) ≡ not a || not b
@@ -32,9 +32,9 @@ module _ (c : Core) (acks bytes frames : List ℕ) where
   abbrev s : State
   s = look c acks bytes frames
 
-  pub group-look : (f : Frame) (ack : List ℕ) → f.n ≡ length ack → not (of_group c f) ≡ foreign s f.src ack
+  pub group-look : (h : Head) (ack : List ℕ) → h.n ≡ length ack → not (of_group c h) ≡ foreign s h.src ack
   unfolding of_group foreign look
-  group-look f ack e = rw e (not-and (eqb (length ack) c.n) (between 1 c.n f.src))
+  group-look h ack e = rw e (not-and (eqb (length ack) c.n) (between 1 c.n h.src))
 
   pub not-foreign : (src : ℕ) (ack : List ℕ) → foreign s src ack ≡ false → OfGroup c.n src ack
   unfolding foreign look

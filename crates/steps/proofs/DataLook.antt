@@ -1,7 +1,6 @@
 -- The checks of data from a unit of the group, and what they note, on a unit's numbers and on the state that they show.
 use mathlib.Core.Bool.{Bool, true, cond, not, ◌||◌}
 use mathlib.Core.List.{List, [], ◌∷◌}
-use mathlib.Core.Option.{some}
 use mathlib.Core.Path.{◌≡◌, refl, sym, ap, ◌∙◌, fun_ext}
 use Prim.Native.Nat.{ℕ, zero, suc, ◌-◌, ◌*◌, ◌≤◌, ◌<◌, max}
 use native.Mathlib.Omega.{arith}
@@ -9,7 +8,7 @@ use lib.Dec.{eqb, leb, ltb}
 use lib.ListN.{length, drop, set, get_or-eq_default}
 use borrow.Author.Tests.{ne_eqb}
 use Rattle.rules.specs.Maps.{at, every, units, upd}
-use Rattle.rules.specs.Message.{Message, message, last}
+use Rattle.rules.specs.Message.{Message, last}
 use Rattle.rules.specs.State.{State}
 use Rattle.rules.specs.Steps.{known, with_heard, noted}
 use Rattle.rules.specs.Calls.{◌⇒◌, data_checks}
@@ -20,9 +19,9 @@ use Rattle.lists.specs.View.{Whole}
 use Rattle.state.specs.declared.Core.{Core}
 use Rattle.state.specs.View.{place_at, kept_of, look}
 use Rattle.state.proofs.EveryLaws.{every-units}
-use Rattle.frame.specs.declared.Frame.{Frame}
+use Rattle.frame.specs.declared.Data.{Data}
 use Rattle.frame.specs.Acks.{eight}
-use Rattle.frame.specs.Frame.{frame_of}
+use Rattle.frame.specs.Frame.{data_of}
 use Rattle.frame.proofs.Numbers.{length-eight}
 use Rattle.store.specs.Store.{after}
 use Rattle.store.proofs.RowLaws.{units-set}
@@ -41,13 +40,13 @@ module _ (c : Core) (acks bytes frames : List ℕ) (p : Message) (most : c.n ≤
   abbrev s : State
   s = look c acks bytes frames
 
-  abbrev f : Frame
-  f = frame_of (some (message p))
+  abbrev f : Data
+  f = data_of p
 
   -- ---- the checks
 
   impossible-look : impossible c f ≡ ltb c.seq (at p.ack c.me) || not (eqb (at p.ack p.src) p.seq) || ltb (4 * c.w * c.n) p.buf
-  unfolding impossible frame_of
+  unfolding impossible
   impossible-look = rw (at-eight p.ack c.me, at-eight p.ack p.src)
 
   known_look : below_but c.n p.src (at (eight p.ack)) (at c.req) ≡ known s p
@@ -64,7 +63,7 @@ module _ (c : Core) (acks bytes frames : List ℕ) (p : Message) (most : c.n ≤
       (λ k a b. rw (ne_eqb k 0 (λ e. omega arith), at-column c.n most k a b c.al p.src G.low G.high, at-eight p.ack k))
 
   pub unit-checks : Whole c.n c.order → unit_checks c f ≡ drop 3 (data_checks s p)
-  unfolding data_checks look frame_of
+  unfolding data_checks look
   unit-checks W i =
       let req : at c.req p.src ≡ units c.n (at c.req) p.src = sym (units_in c.n (at c.req) p.src G.low G.high) in
       (eqb p.src c.me ⇒ 6)
@@ -105,5 +104,5 @@ module _ (c : Core) (acks bytes frames : List ℕ) (p : Message) (most : c.n ≤
             rw (ne_eqb k p.src (λ e. x (omega arith) (omega arith)), at-outside p.ack k (λ a b. x a (omega arith)))
 
     pub noted-look : look (noted_of c f) acks bytes frames ≡ noted s p
-    unfolding noted_of noted look place_at kept_of frame_of
+    unfolding noted_of noted look place_at kept_of
     noted-look = ap (with_heard s) new-heard

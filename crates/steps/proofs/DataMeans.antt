@@ -1,13 +1,12 @@
 -- The arrival of data, as the rules say it.
 use mathlib.Core.Bool.{Bool, true, false, cond, not}
 use mathlib.Core.List.{List, [], ◌∷◌}
-use mathlib.Core.Option.{some}
 use mathlib.Core.Path.{◌≡◌, refl, sym, ap, ◌∙◌}
 use Prim.Native.Nat.{ℕ, ◌≤◌}
 use native.Mathlib.Omega.{arith}
 use lib.Dec.{eqb}
 use lib.ListN.{drop}
-use Rattle.rules.specs.Message.{Message, message}
+use Rattle.rules.specs.Message.{Message}
 use Rattle.rules.specs.State.{State}
 use Rattle.rules.specs.Steps.{noted, accepted}
 use Rattle.rules.specs.Sound.{sound}
@@ -24,38 +23,38 @@ use Rattle.state.specs.declared.Core.{Core}
 use Rattle.state.specs.View.{look}
 use Rattle.state.proofs.SoundLaws.{sound-look}
 use Rattle.state.proofs.RoomLaws.{sound-whole}
-use Rattle.frame.specs.declared.Frame.{Frame}
+use Rattle.frame.specs.declared.Data.{Data}
 use Rattle.frame.specs.Acks.{eight}
-use Rattle.frame.specs.Frame.{frame_of}
+use Rattle.frame.specs.Frame.{data_of}
 use Rattle.frame.proofs.Numbers.{length-eight}
 use Rattle.store.specs.Fits.{Sized, Fits, Says}
 use Rattle.store.proofs.AcceptedLook.{accepted_look, accepted-look}
 use Rattle.store.proofs.Supplied.{storable-fits, storable-goes}
 use Rattle.steps.specs.declared.Arrival.{Arrival}
-use Rattle.steps.specs.Arrival.{passing, noted_of, notes, accepting_of, storing, unit_arrival, data_arrival}
-use Rattle.steps.specs.Checks.{unit_checks}
-use Rattle.steps.specs.Means.{arrived_as}
+use Rattle.steps.specs.Arrival.{refusing, noted_of, notes, noting, accepting_of, storing, unit_arrival, data_arrival}
+use Rattle.steps.specs.Means.{arrived_at, arrived_as}
 use Rattle.steps.proofs.AckLaws.{part-eight}
 use Rattle.steps.proofs.ChecksLook.{OfGroup, group-look, not-foreign}
 use Rattle.steps.proofs.DataLook.{unit-checks, noted-look}
-use Rattle.rules.proofs.DecideLaws.{decide-answer, decide-map}
+use Rattle.answers.specs.Answers.{Answered, number_of, refusal_of}
+use Rattle.answers.proofs.AnswersLaws.{numbered-map}
 use Rattle.steps.proofs.PlaceLook.{Taking, taking}
 
 module _ (c : Core) (acks bytes frames : List ℕ) (Z : Sized c acks bytes) (p : Message) (limits : Limits p) where
   abbrev s : State
   s = look c acks bytes frames
 
-  abbrev f : Frame
-  f = frame_of (some (message p))
+  abbrev f : Data
+  f = data_of p
 
   -- what an arrival of p means
-  abbrev means : Arrival → Result
+  abbrev means : Core × Answered Arrival → Result
   means r = arrived_as r acks bytes frames p.text
 
   -- ---- accepted
 
   accepted-means : Passed (data_checks s p) → accepted_look c acks bytes frames (accepting_of c f) p.text ≡ accepted s p
-  unfolding look frame_of
+  unfolding look
   accepted-means h = accepted-look c acks bytes frames (accepting_of c f) p.text p Z fits (storable-goes c acks bytes frames p Z A (accepting_of c f) p.text says) says
     where
       A : Storable s p
@@ -91,11 +90,11 @@ module _ (c : Core) (acks bytes frames : List ℕ) (Z : Sized c acks bytes) (p :
 
   unit-means : sound s ≡ true → OfGroup c.n p.src p.ack → (Passed (drop 3 (data_checks s p)) → Passed (data_checks s p))
       → means (unit_arrival c f) ≡ decide (drop 3 (data_checks s p)) refused (done (accepted s p))
-  unfolding unit_arrival arrived_as storing look
+  unfolding unit_arrival arrived_at storing look data_checks
   unit-means h G passed =
-      ap means (decide-answer passes (storing c f) (unit_checks c f) refl)
-      ∙ ap (λ (l : List Check). means (decide l passes (storing c f))) (unit-checks c acks bytes frames p most G whole)
-      ∙ decide-map means passes (storing c f) refused (done (accepted s p)) (drop 3 (data_checks s p)) (λ a x. refuses (notes a) a)
+      ap (λ (l : List Check). means (decide l (noting c f) (storing c f))) (unit-checks c acks bytes frames p most G whole)
+      ∙ numbered-map means (noting c f) (storing c f) refused (λ a e. refuses (notes a) a e) (done (accepted s p)) (drop 3 (data_checks s p))
+      (refl, (refl, (refl, (refl, (refl, (refl, (refl, tt)))))))
       (λ x. ap done (accepted-means (passed x)))
     where
       most : c.n ≤ 8
@@ -104,26 +103,23 @@ module _ (c : Core) (acks bytes frames : List ℕ) (Z : Sized c acks bytes) (p :
       whole : Whole c.n c.order
       whole = sound-whole c acks Z.list (sound-look c acks bytes frames ∙ h)
 
-      passes : ℕ → Arrival
-      passes a = passing a 0 0 (cond (notes a) (noted_of c f) c)
-
-      refuses : (t : Bool) (a : ℕ) → means (passing a 0 0 (cond t (noted_of c f) c)) ≡ refusal 2 (cond t (noted s p) s) [] a
-      refuses false a = refl
-      refuses true a = ap (λ (t : State). refusal 2 t [] a) (noted-look c acks bytes frames p most G limits.seq-high)
+      refuses : (t : Bool) (a : ℕ) → number_of (refusal_of a) ≡ a → means (refusing (cond t (noted_of c f) c) a) ≡ refusal 2 (cond t (noted s p) s) [] a
+      refuses false a e = ap (refusal 2 s []) e
+      refuses true a e = ap (refusal 2 (look (noted_of c f) acks bytes frames) []) e ∙ ap (λ (t : State). refusal 2 t [] a) (noted-look c acks bytes frames p most G limits.seq-high)
 
   -- ---- the whole
 
   pub data-means : sound s ≡ true → means (data_arrival c f) ≡ arrive_data s p
-  unfolding data_arrival arrive_data data_checks look arrived_as frame_of
+  unfolding data_arrival arrive_data data_checks look arrived_at
   data-means h =
-      ap (λ (t : Bool). means (cond other (passing 4 0 0 c) (cond t (passing 5 0 0 c) (unit_arrival c f)))) (group-look c acks bytes frames f p.ack refl)
+      ap (λ (t : Bool). means (cond other (refusing c 4) (cond t (refusing c 5) (unit_arrival c f)))) (group-look c acks bytes frames f.head p.ack refl)
       ∙ go other (foreign s p.src p.ack) refl refl
     where
       other : Bool
       other = not (eqb p.cid c.cid)
 
       go : (t u : Bool) → other ≡ t → foreign s p.src p.ack ≡ u
-          → means (cond t (passing 4 0 0 c) (cond u (passing 5 0 0 c) (unit_arrival c f)))
+          → means (cond t (refusing c 4) (cond u (refusing c 5) (unit_arrival c f)))
           ≡ cond (not (sound s)) (refused 1) (cond t (refused 4) (cond u (refused 5) (decide (drop 3 (data_checks s p)) refused (done (accepted s p)))))
       go true u a b = rw h
       go false true a b = rw h

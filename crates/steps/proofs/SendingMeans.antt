@@ -6,7 +6,6 @@ use Prim.Native.Nat.{ℕ, ◌+◌, ◌*◌, ◌≤◌}
 use native.Mathlib.Omega.{arith}
 use lib.Dec.{leb, ltb}
 use lib.ListN.{length, drop}
-use borrow.Author.Tests.{ne_eqb}
 use Rattle.rules.specs.Maps.{at, least, units}
 use Rattle.rules.specs.Message.{Message, last}
 use Rattle.rules.specs.State.{State}
@@ -15,7 +14,6 @@ use Rattle.rules.specs.Sound.{sound}
 use Rattle.rules.specs.Calls as rules
 use Rattle.rules.specs.Calls.{Check, ◌⇒◌, decide, Result, refusal, written, send}
 use Rattle.rules.proofs.MessageLaws.{length-message}
-use Rattle.rules.proofs.ChecksLaws.{refused-above}
 use Rattle.rules.proofs.SoundLaws.{Ranges, Sound, sound-facts}
 use Rattle.rules.proofs.KeepsSound.{Storable}
 use Rattle.rules.proofs.SendLaws.{Sends, passed-sends, outgoing-carries}
@@ -37,10 +35,13 @@ use Rattle.store.proofs.AcceptedLook.{accepted_look, framed, kept, sent-look}
 use Rattle.store.proofs.Supplied.{storable-fits, storable-goes, sends-keeps, keeping-sized}
 use Rattle.steps.specs.declared.Sending.{Sending}
 use Rattle.steps.specs.Checks.{window_open, send_checks}
-use Rattle.steps.specs.Sending.{frame_length, refused_send, own_accepting, sending_own, sending_checked, sending_of}
+use Rattle.steps.specs.Sending.{frame_length, own_accepting, sending_own, sending_checked, sending_of}
 use Rattle.steps.specs.Means.{Shaped, own_frame, sent_as}
 use Rattle.steps.proofs.ChecksLook.{full-look}
-use Rattle.rules.proofs.DecideLaws.{decide-answer, decide-map}
+use Rattle.std.specs.Prelude.{Ok, Err}
+use Rattle.answers.specs.declared.Refusal.TheVariants.{Unsound}
+use Rattle.answers.specs.Answers.{Answered, refusal_of}
+use Rattle.answers.proofs.AnswersLaws.{numbered-map}
 use Rattle.steps.proofs.PlaceLook.{Taking, taking}
 
 -- the least of a row, which is the first of a table
@@ -129,7 +130,7 @@ module _ (c : Core) (acks bytes frames : List ℕ) (Z : Shaped c acks bytes fram
         storable : Storable (look new acks bytes slots) q
         storable = subst (λ (t : State). Storable t q) (sym (keeping-look c acks bytes frames q keeps short)) (send-storable s d out A)
 
-    done-means : sent_as (sending_own c (length d)) c acks bytes frames d out ≡ done (sent s q)
+    done-means : sent_as (Ok (sending_own c (length d))) c acks bytes frames d out ≡ done (sent s q)
     unfolding sent_as sending_own look
     done-means =
         ap (λ (f : List ℕ). shown f (frame_length c (length d))) (own-frame A.sound.ranges.n-high)
@@ -148,7 +149,7 @@ module _ (c : Core) (acks bytes frames : List ℕ) (Z : Shaped c acks bytes fram
 
   -- ---- the whole
 
-  abbrev means : Sending → Result
+  abbrev means : Answered Sending → Result
   means r = sent_as r c acks bytes frames d out
 
   sound-means : sound_of c acks ≡ true → means (sending_checked c (length d) (length out)) ≡ send s d out
@@ -157,10 +158,10 @@ module _ (c : Core) (acks bytes frames : List ℕ) (Z : Shaped c acks bytes fram
       let e : sound s ≡ true = sym (sound-look c acks bytes frames) ∙ h in
       let R = (sound-facts s e).ranges in
       let W : Whole c.n c.order = sound-whole c acks Z.sized.list h in
-      let refuses : ℕ → Sending = (λ a. refused_send a c) in
-      ap means (decide-answer refuses (sending_own c (length d)) (send_checks c (length d) (length out)) refl)
-      ∙ ap (λ (l : List Check). means (decide l refuses (sending_own c (length d)))) (send-checks R W)
-      ∙ decide-map means refuses (sending_own c (length d)) (refusal 2 s out) (done (sent s q)) (drop 1 (rules.send_checks s d out)) (λ a x. rw (ne_eqb a 0 (λ z. omega (arith, refused-above 0 x refl))))
+      let refuses : ℕ → Answered Sending = (λ a. Err (refusal_of a)) in
+      ap (λ (l : List Check). means (decide l refuses (Ok (sending_own c (length d))))) (send-checks R W)
+      ∙ numbered-map means refuses (Ok (sending_own c (length d))) (refusal 2 s out) (λ a e. ap (refusal 2 s out) e) (done (sent s q)) (drop 1 (rules.send_checks s d out))
+      (refl, (refl, (refl, (refl, (refl, tt)))))
       (λ p. done-means W (passed-sends s d out (rw e, p)))
       ∙ rw e
 
@@ -172,6 +173,6 @@ sending-means c acks bytes frames Z d out = go (sound_of c acks) refl
     s : State
     s = look c acks bytes frames
 
-    go : (t : Bool) → sound_of c acks ≡ t → sent_as (cond t (sending_checked c (length d) (length out)) (refused_send 1 c)) c acks bytes frames d out ≡ send s d out
+    go : (t : Bool) → sound_of c acks ≡ t → sent_as (cond t (sending_checked c (length d) (length out)) (Err Unsound)) c acks bytes frames d out ≡ send s d out
     go true h = sound-means c acks bytes frames Z d out h
     go false h = rw (← sound-look c acks bytes frames, h)

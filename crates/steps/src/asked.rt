@@ -1,74 +1,67 @@
 // The arrival of a request.
 ghost use Rattle.std.specs.Prelude.{◌≡◌};
+ghost use Rattle.answers.specs.Answers.{judged};
 ghost use Rattle.steps.specs.Arrival.{request_arrival};
-ghost use Rattle.rules.specs.Calls.{answer_of};
 ghost use Rattle.steps.specs.Checks.{names_other, asks_wrongly, resend_from, request_checks};
 
-use crate::{Arrival, of_group, passed};
-use frame::Frame;
+use crate::{Arrival, Resend, of_group};
+use answers::Refusal;
+use frame::Request;
 use state;
 use state::Core;
 use tables;
 
-fn names_other(c: Core, f: Frame) -> bool
+fn names_other(c: Core, f: Request) -> bool
     ensures { result ≡ names_other c f }
 {
-    state::is_unit(c.n, f.lsrc) && f.lsrc != f.src
+    state::is_unit(c.n, f.lsrc) && f.lsrc != f.head.src
 }
 
-fn asks_wrongly(c: Core, f: Frame) -> bool
+fn asks_wrongly(c: Core, f: Request) -> bool
     ensures { result ≡ asks_wrongly c f }
 {
-    let own = tables::at(&f.ack, c.me);
-    if c.seq < own {
-        return true;
-    }
-    if c.seq < f.lseq {
-        return true;
-    }
-    f.lseq <= own
+    let own = tables::at(&f.head.ack, c.me);
+    let not_sent = c.seq < own || c.seq < f.lseq;
+    not_sent || f.lseq <= own
 }
 
 // The first number to resend.
-fn first(c: Core, f: Frame) -> u32
+fn first(c: Core, f: Request) -> u32
     ensures { result ≡ resend_from c f }
 {
-    tables::larger(tables::at(&f.ack, c.me), state::own_low(&c.al, c.me, c.n))
+    tables::at(&f.head.ack, c.me).max(state::own_low(&c.al, c.me, c.n))
 }
 
-fn answer(c: Core, f: Frame) -> u32
-    ensures { result ≡ answer_of (request_checks c f) }
+fn checks(c: Core, f: Request) -> Result<(), Refusal>
+    ensures { result ≡ judged (request_checks c f) tt }
 {
-    if f.cid != c.cid {
-        return 4;
+    if f.head.cid != c.cid {
+        return Err(Refusal::OtherGroup);
     }
-    if !of_group(c, f) {
-        return 5;
+    if !(of_group(c, f.head) && names_other(c, f)) {
+        return Err(Refusal::NoSuchUnit);
     }
-    if !names_other(c, f) {
-        return 5;
-    }
-    if f.src == c.me as u32 {
-        return 6;
+    if f.head.src == c.me as u32 {
+        return Err(Refusal::OwnFrame);
     }
     if f.lsrc != c.me as u32 {
-        return 17;
+        return Err(Refusal::ForAnother);
     }
     if asks_wrongly(c, f) {
-        return 7;
+        return Err(Refusal::Impossible);
     }
     if f.lseq <= first(c, f) {
-        return 18;
+        return Err(Refusal::Nothing);
     }
-    0
+    Ok(())
 }
 
-pub fn arrived(c: Core, f: Frame) -> Arrival
+pub fn arrived(c: Core, f: Request) -> Result<Arrival, Refusal>
     ensures { result ≡ request_arrival c f }
 {
-    let a = answer(c, f);
-    if a == 0 {
-        return passed(0, first(c, f), f.lseq - 1, c);
-    }
-    passed(a, 0, 0, c)
+    checks(c, f)?;
+    Ok(Arrival::Asked(Resend {
+        first: first(c, f),
+        last: f.lseq - 1,
+    }))
 }

@@ -1,78 +1,76 @@
 // The arrival of data.
 ghost use Rattle.std.specs.Prelude.{◌≡◌, ◌<◌};
+ghost use Rattle.answers.specs.Answers.{number_of, judged};
 ghost use Rattle.steps.specs.Arrival.{noted_of, notes, storing, unit_arrival, data_arrival};
-ghost use Rattle.rules.specs.Calls.{answer_of};
 ghost use Rattle.steps.specs.Checks.{Ranged, FromUnit, impossible, turn_checks, unit_checks};
 
-use crate::{Arrival, of_group, passed, place};
-use frame::Frame;
+use crate::{Arrival, Stored, of_group, place};
+use answers::Refusal;
+use frame::Data;
 use state::Core;
 use store;
 use store::Accepting;
 use tables;
 
 // Whether f says what no unit of the group can have said.
-fn cannot_be(c: Core, f: Frame) -> bool
-    requires { Ranged c × FromUnit c f }
+fn cannot_be(c: Core, f: Data) -> bool
+    requires { Ranged c × FromUnit c f.head }
     ensures { result ≡ impossible c f }
 {
+    let ack = f.head.ack;
     let places = 4 * (c.w as u32) * (c.n as u32);
-    if c.seq < tables::at(&f.ack, c.me) {
-        return true;
-    }
-    if tables::at(&f.ack, f.src as u8) != f.seq {
-        return true;
-    }
-    places < f.buf
+    let misled = c.seq < tables::at(&ack, c.me) || tables::at(&ack, f.head.src as u8) != f.seq;
+    misled || places < f.buf
 }
 
 // Whether it is the sender's turn: the next of its messages, and none that it knew of is missing here.
-fn turn(c: Core, f: Frame) -> u32
-    requires { Ranged c × FromUnit c f }
-    ensures { result ≡ answer_of (turn_checks c f) }
+fn turn(c: Core, f: Data) -> Result<(), Refusal>
+    requires { Ranged c × FromUnit c f.head }
+    ensures { result ≡ judged (turn_checks c f) tt }
 {
-    let j = f.src as u8;
+    let j = f.head.src as u8;
+    let ack = f.head.ack;
     let next = tables::at(&c.req, j);
     if f.seq < next {
-        return 8;
+        return Err(Refusal::AcceptedBefore);
     }
     if next < f.seq {
-        return 9;
+        return Err(Refusal::EarlierMissing);
     }
-    if !tables::below_but(&f.ack, &c.req, c.n, j) {
-        return 10;
+    if !tables::below_but(&ack, &c.req, c.n, j) {
+        return Err(Refusal::NamesMissing);
     }
     let said = tables::column_of(&c.al, j);
-    if !tables::below_but(&said, &f.ack, c.n, 0) {
-        return 11;
+    if !tables::below_but(&said, &ack, c.n, 0) {
+        return Err(Refusal::AckFell);
     }
     if place::none_free(c, j) {
-        return 12;
+        return Err(Refusal::NoPlace);
     }
-    0
+    Ok(())
 }
 
-fn answer(c: Core, f: Frame) -> u32
-    requires { Ranged c × FromUnit c f }
-    ensures { result ≡ answer_of (unit_checks c f) }
+fn checks(c: Core, f: Data) -> Result<(), Refusal>
+    requires { Ranged c × FromUnit c f.head }
+    ensures { result ≡ judged (unit_checks c f) tt }
 {
-    if f.src == c.me as u32 {
-        return 6;
+    if f.head.src == c.me as u32 {
+        return Err(Refusal::OwnFrame);
     }
     if cannot_be(c, f) {
-        return 7;
+        return Err(Refusal::Impossible);
     }
     turn(c, f)
 }
 
 // The numbers that f shows to be missing are noted.
-fn noted(c: Core, f: Frame) -> Core
-    requires { Ranged c × FromUnit c f }
+fn noted(c: Core, f: Data) -> Core
+    requires { Ranged c × FromUnit c f.head }
     ensures { result ≡ noted_of c f }
 {
-    let ack = f.ack;
+    let ack = f.head.ack;
     let heard = c.heard;
-    let shown = tables::with(ack, f.src as u8, tables::next(f.seq));
+    let shown = tables::with(ack, f.head.src as u8, tables::next(f.seq));
     let more = tables::raised_to(heard, shown, c.n);
     let mut d = c;
     d.heard = more;
@@ -80,12 +78,12 @@ fn noted(c: Core, f: Frame) -> Core
 }
 
 // The message of f is stored at the first free place.
-fn stored(c: Core, f: Frame) -> Arrival
-    requires { (Ranged c × FromUnit c f) × (f.len < 256) }
+fn stored(c: Core, f: Data) -> (Core, Result<Arrival, Refusal>)
+    requires { (Ranged c × FromUnit c f.head) × (f.len < 256) }
     ensures { result ≡ storing c f }
 {
-    let ack = f.ack;
-    let place = place::first_free(c, f.src as u8);
+    let ack = f.head.ack;
+    let place = place::first_free(c, f.head.src as u8);
     let m = Accepting {
         place,
         seq: f.seq,
@@ -94,59 +92,40 @@ fn stored(c: Core, f: Frame) -> Arrival
         len: f.len as u8,
     };
     let s = store::stored(c, m);
-    let core = s.core;
-    Arrival {
-        answer: 0,
-        first: 0,
-        last: 0,
-        stores: true,
-        place,
-        gone: s.gone,
-        ack,
-        core,
-    }
+    let gone = s.gone;
+    (s.core, Ok(Arrival::Accepted(Stored { place, gone, ack })))
 }
 
 // Whether a refusal notes the missing numbers.
-fn notes(answer: u32) -> bool
-    ensures { result ≡ notes answer }
+fn notes(r: Refusal) -> bool
+    ensures { result ≡ notes (number_of r) }
 {
-    if answer == 9 {
-        return true;
-    }
-    if answer == 10 {
-        return true;
-    }
-    if answer == 12 {
-        return true;
-    }
-    false
+    matches!(
+        r,
+        Refusal::EarlierMissing | Refusal::NamesMissing | Refusal::NoPlace
+    )
 }
 
 // The data come from a unit of the group.
-fn from_unit(c: Core, f: Frame) -> Arrival
-    requires { (Ranged c × FromUnit c f) × (f.len < 256) }
+fn from_unit(c: Core, f: Data) -> (Core, Result<Arrival, Refusal>)
+    requires { (Ranged c × FromUnit c f.head) × (f.len < 256) }
     ensures { result ≡ unit_arrival c f }
 {
-    let a = answer(c, f);
-    if a == 0 {
-        return stored(c, f);
+    match checks(c, f) {
+        Ok(()) => stored(c, f),
+        Err(r) => (if notes(r) { noted(c, f) } else { c }, Err(r)),
     }
-    if notes(a) {
-        return passed(a, 0, 0, noted(c, f));
-    }
-    passed(a, 0, 0, c)
 }
 
-pub fn arrived(c: Core, f: Frame) -> Arrival
+pub fn arrived(c: Core, f: Data) -> (Core, Result<Arrival, Refusal>)
     requires { Ranged c × (f.len < 256) }
     ensures { result ≡ data_arrival c f }
 {
-    if f.cid != c.cid {
-        return passed(4, 0, 0, c);
+    if f.head.cid != c.cid {
+        return (c, Err(Refusal::OtherGroup));
     }
-    if !of_group(c, f) {
-        return passed(5, 0, 0, c);
+    if !of_group(c, f.head) {
+        return (c, Err(Refusal::NoSuchUnit));
     }
     from_unit(c, f)
 }

@@ -1,10 +1,11 @@
 // A send.
 ghost use Rattle.std.specs.Prelude.{◌≡◌, ◌≤◌};
-ghost use Rattle.rules.specs.Calls.{answer_of};
+ghost use Rattle.answers.specs.Answers.{judged};
 ghost use Rattle.steps.specs.Checks.{Ranged, window_open, send_checks};
 ghost use Rattle.steps.specs.Sending.{sending_own, sending_checked};
 
-use crate::{Sending, place, refused};
+use crate::{Sending, place};
+use answers::Refusal;
 use state;
 use state::Core;
 use store;
@@ -17,30 +18,30 @@ fn window_open(c: Core) -> bool
     ensures { result ≡ window_open c }
 {
     let share = tables::least_of(&c.buf, c.n) / (c.n as u32);
-    let ahead = tables::lesser(c.w as u32, share);
+    let ahead = (c.w as u32).min(share);
     (c.seq as u64) < (state::own_low(&c.al, c.me, c.n) as u64) + (ahead as u64)
 }
 
-fn answer(c: Core, len: usize, room: usize) -> u32
+fn checks(c: Core, len: usize, room: usize) -> Result<(), Refusal>
     requires { Ranged c }
-    ensures { result ≡ answer_of (send_checks c len room) }
+    ensures { result ≡ judged (send_checks c len room) tt }
 {
     if 48 < len {
-        return 13;
+        return Err(Refusal::TooLong);
     }
-    if 4294967295 <= c.seq {
-        return 14;
+    if c.seq == u32::MAX {
+        return Err(Refusal::NoNumberLeft);
     }
     if !window_open(c) {
-        return 15;
+        return Err(Refusal::WindowShut);
     }
     if place::none_free(c, c.me) {
-        return 12;
+        return Err(Refusal::NoPlace);
     }
     if room < 37 + 4 * (c.n as usize) + len {
-        return 16;
+        return Err(Refusal::OutputTooShort);
     }
-    0
+    Ok(())
 }
 
 // The frame is kept, and its message stored at the first free place.
@@ -60,24 +61,19 @@ fn kept(c: Core, len: usize) -> Sending
         len: len as u8,
     };
     let s = store::stored(next, m);
-    let core = s.core;
     Sending {
-        answer: 0,
         buf: buf as u16,
         slot: store::kept_slot(c),
         place,
         gone: s.gone,
-        core,
+        core: s.core,
     }
 }
 
-pub fn checked(c: Core, len: usize, room: usize) -> Sending
+pub fn checked(c: Core, len: usize, room: usize) -> Result<Sending, Refusal>
     requires { Ranged c }
     ensures { result ≡ sending_checked c len room }
 {
-    let a = answer(c, len, room);
-    if a == 0 {
-        return kept(c, len);
-    }
-    refused(a, c)
+    checks(c, len, room)?;
+    Ok(kept(c, len))
 }

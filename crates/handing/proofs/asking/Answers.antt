@@ -2,7 +2,7 @@
 use mathlib.Core.Path.{sym, ◌∙◌}
 use native.Mathlib.Omega.{arith}
 use Rattle.state.proofs.CheckedLaws.{checked-sound, checked-unsound}
-use Rattle.handing.proofs.Answers.{asking-1, asking-nobody, asking-oneself, asking-18, asking-16, asking-0}
+use Rattle.handing.proofs.Answers.{asking-1, asking-nobody, asking-oneself, asking-18, asking-written}
 use Rattle.handing.proofs.asking.Goals as goal
 use Rattle.handing.proofs.asking.Goals.{then-not-is_unit-via-then-not-is_unit, then-not-is_unit-via-else-not-is_unit+then-k-c}
 
@@ -23,10 +23,6 @@ pub returns-then-heard-at : goal.returns-then-heard-at
 returns-then-heard-at c =
     asking-18 _ _ _ _ (checked-sound _ _ _ c.checked.ensures _ c.in_ok-checked.was) (sym c.is_unit.ensures ∙ c.if-not-is_unit.false) c.if-k-c.false (omega arith)
 
-pub returns-then-out-len : goal.returns-then-out-len
-returns-then-out-len c =
-    asking-16 _ _ _ _ (checked-sound _ _ _ c.checked.ensures _ c.in_ok-checked.was) (sym c.is_unit.ensures ∙ c.if-not-is_unit.false) c.if-k-c.false (omega arith) c.if-out-len.true
-
 pub returns : goal.returns
 returns c =
-    asking-0 _ _ _ _ (checked-sound _ _ _ c.checked.ensures _ c.in_ok-checked.was) (sym c.is_unit.ensures ∙ c.if-not-is_unit.false) c.if-k-c.false (omega arith) c.if-out-len.false _ c.at-heard.ensures _ _ c.write_request.ensures
+    asking-written _ _ _ _ (checked-sound _ _ _ c.checked.ensures _ c.in_ok-checked.was) (sym c.is_unit.ensures ∙ c.if-not-is_unit.false) c.if-k-c.false (omega arith) _ c.at-heard.ensures _ _ c.write_request.ensures

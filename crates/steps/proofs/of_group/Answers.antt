@@ -3,10 +3,10 @@ use borrow.Author.Tests.{eq-eqb, ne_eqb}
 use Rattle.steps.specs.Checks.{of_group}
 use Rattle.steps.proofs.of_group.Goals as goal
 
-pub returns-then-f-c : goal.returns-then-f-c
+pub returns-then-h-c : goal.returns-then-h-c
 unfolding of_group
-returns-then-f-c c = rw (eq-eqb _ _ c.if-f-c.true) c.is_unit.ensures
+returns-then-h-c c = rw (eq-eqb _ _ c.if-h-c.true) c.is_unit.ensures
 
-pub returns-else-f-c : goal.returns-else-f-c
+pub returns-else-h-c : goal.returns-else-h-c
 unfolding of_group
-returns-else-f-c c = rw (ne_eqb _ _ c.if-f-c.false)
+returns-else-h-c c = rw (ne_eqb _ _ c.if-h-c.false)

@@ -1,18 +1,27 @@
 -- `arrived` meets its contract.
+use mathlib.Core.Path.{refl, sym, ap, ◌∙◌}
 use native.Mathlib.Omega.{arith}
-use borrow.Author.Tests.{eq-eqb, ne_eqb}
+use Rattle.std.specs.Prelude.{◌-◌, Ok}
+use Rattle.steps.specs.declared.Arrival.TheVariants.{Asked}
+use Rattle.answers.proofs.AnswersLaws.{judged-ok, judged-err}
 use Rattle.steps.specs.Arrival.{request_arrival}
+use Rattle.steps.specs.Checks.{request_checks}
 use Rattle.steps.proofs.PassedLaws.{asks-some}
-use mathlib.Core.Path.{sym, ◌∙◌}
 use Rattle.steps.proofs.asked.arrived.Goals as goal
 
-pub overflow_sub-f : goal.overflow_sub-f
-overflow_sub-f c = omega (arith, asks-some c.args.c c.args.f (sym c.answer-a.ensures ∙ c.if-a-eq0.true))
-
-pub returns-then-a-eq0 : goal.returns-then-a-eq0
+pub returns-in_err-checks : goal.returns-in_err-checks
 unfolding request_arrival
-returns-then-a-eq0 c = rw (← c.answer-a.ensures, eq-eqb _ _ c.if-a-eq0.true, ← c.first.ensures) c.passed.ensures
+returns-in_err-checks c =
+    let a = c.args in
+    judged-err _ (request_checks a.c a.f) (refl, (refl, (refl, (refl, (refl, (refl, tt)))))) _ (sym c.checks.ensures ∙ c.in_err-checks.was) _ c.from_residual.ensures.1
+
+pub overflow_sub-result : goal.overflow_sub-result
+overflow_sub-result c =
+    omega (arith, asks-some c.args.c c.args.f _ (sym c.checks.ensures ∙ c.in_ok-checks.was))
 
 pub returns : goal.returns
 unfolding request_arrival
-returns c = rw (← c.answer-a.ensures, ne_eqb _ _ c.if-a-eq0.false) c.passed-2.ensures
+returns c =
+    let a = c.args in
+    ap (λ x. Ok (Asked (record { first = x; last = a.f.lseq - 1 }))) c.first.ensures
+    ∙ judged-ok _ (request_checks a.c a.f) _ (sym c.checks.ensures ∙ c.in_ok-checks.was)

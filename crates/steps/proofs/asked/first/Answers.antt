@@ -4,4 +4,4 @@ use Rattle.steps.proofs.asked.first.Goals as goal
 
 pub returns : goal.returns
 unfolding resend_from
-returns c = rw (← c.at.ensures, ← c.own_low.ensures) c.larger.ensures
+returns c = rw (← c.at.ensures, ← c.own_low.ensures) c.max.ensures

@@ -1,24 +1,23 @@
 -- `cannot_be` meets its contract.
-use native.Mathlib.Omega.{arith}
-use borrow.Author.Tests.{lt-ltb, le-ltb, eq-eqb, ne_eqb}
+use mathlib.Core.Bool.{true≢false}
+use mathlib.Core.Path.{sym, ◌∙◌}
+use borrow.Author.Tests.{lt-ltb, le-ltb}
 use Rattle.steps.specs.Checks.{impossible}
-use Rattle.steps.proofs.RangeLaws.{places-few}
 use Rattle.steps.proofs.data.cannot_be.Goals as goal
+use Rattle.steps.proofs.data.cannot_be.Goals.{then-c-at, else-c-at}
 
-pub overflow_mul-places-2 : goal.overflow_mul-places-2
-overflow_mul-places-2 c = omega (arith, places-few c.args.c c.requires.0)
-
-pub returns-then-c-at : goal.returns-then-c-at
+pub returns-then-misled : goal.returns-then-misled
 unfolding impossible
-returns-then-c-at c = rw (← c.at.ensures, lt-ltb _ _ c.if-c-at.true)
+returns-then-misled c =
+    elim c.if-c-at.branch [
+      | then-c-at w ↦ rw (← c.at.ensures, lt-ltb _ _ w.if-c-at.true) c.if-misled.true
+      | else-c-at w ↦ rw (← c.at.ensures, le-ltb _ _ w.if-c-at.false, ← w.at-else-c-at.ensures, ← w.misled-is, c.if-misled.true)
+    ]
 
-pub overflow_cast-f : goal.overflow_cast-f
-overflow_cast-f c = omega (arith, c.requires.0.few, c.requires.1.unit)
-
-pub returns-then-at-f : goal.returns-then-at-f
+pub returns-else-misled : goal.returns-else-misled
 unfolding impossible
-returns-then-at-f c = rw (← c.at.ensures, le-ltb _ _ c.if-c-at.false, ← c.at-2.ensures, ne_eqb _ _ c.if-at-f.true)
-
-pub returns : goal.returns
-unfolding impossible
-returns c = rw (← c.at.ensures, le-ltb _ _ c.if-c-at.false, ← c.at-2.ensures, eq-eqb _ _ c.if-at-f.false)
+returns-else-misled c =
+    elim c.if-c-at.branch [
+      | then-c-at w ↦ absurd (true≢false (sym (lt-ltb _ _ w.if-c-at.true) ∙ (sym w.misled-is ∙ c.if-misled.false)))
+      | else-c-at w ↦ rw (← c.at.ensures, le-ltb _ _ w.if-c-at.false, ← w.at-else-c-at.ensures, ← w.misled-is, c.if-misled.false)
+    ]

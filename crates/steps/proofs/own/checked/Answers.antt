@@ -1,17 +1,22 @@
 -- `checked` meets its contract.
-use borrow.Author.Tests.{eq-eqb, ne_eqb}
+use mathlib.Core.Path.{refl, sym, ◌∙◌}
+use Rattle.answers.proofs.AnswersLaws.{judged-ok, judged-err}
+use Rattle.steps.specs.Checks.{send_checks}
 use Rattle.steps.specs.Sending.{sending_checked}
 use Rattle.steps.proofs.PassedLaws.{short-data}
-use mathlib.Core.Path.{sym, ◌∙◌}
 use Rattle.steps.proofs.own.checked.Goals as goal
 
 pub kept-requires : goal.kept-requires
-kept-requires c = (c.requires, short-data c.args.c c.args.len c.args.room (sym c.answer-a.ensures ∙ c.if-a-eq0.true))
+kept-requires c = (c.requires, short-data c.args.c c.args.len c.args.room _ (sym c.checks.ensures ∙ c.in_ok-checks.was))
 
-pub returns-then-a-eq0 : goal.returns-then-a-eq0
+pub returns-in_err-checks : goal.returns-in_err-checks
 unfolding sending_checked
-returns-then-a-eq0 c = rw (← c.answer-a.ensures, eq-eqb _ _ c.if-a-eq0.true) c.kept.ensures
+returns-in_err-checks c =
+    let a = c.args in
+    judged-err _ (send_checks a.c a.len a.room) (refl, (refl, (refl, (refl, (refl, tt))))) _ (sym c.checks.ensures ∙ c.in_err-checks.was) _ c.from_residual.ensures.1
 
 pub returns : goal.returns
 unfolding sending_checked
-returns c = rw (← c.answer-a.ensures, ne_eqb _ _ c.if-a-eq0.false) c.refused.ensures
+returns c =
+    let a = c.args in
+    rw (← c.kept.ensures) (judged-ok _ (send_checks a.c a.len a.room) _ (sym c.checks.ensures ∙ c.in_ok-checks.was))

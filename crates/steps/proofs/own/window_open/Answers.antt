@@ -4,4 +4,4 @@ use Rattle.steps.proofs.own.window_open.Goals as goal
 
 pub returns : goal.returns
 unfolding window_open
-returns c = rw (← c.own_low.ensures, ← c.least_of.ensures, ← c.lesser-ahead.ensures)
+returns c = rw (← c.own_low.ensures, ← c.least_of.ensures, ← c.min-ahead.ensures)

@@ -6,7 +6,6 @@ use Rattle.rules.specs.Lawful.{Each, nil, cons, Lawful}
 use Rattle.rules.proofs.MapsLaws.{is-between}
 use Rattle.frame.specs.declared.Frame.{Frame}
 use Rattle.frame.specs.Frame.{data_of, frame_of}
-use Rattle.frame.proofs.Numbers.{length-eight}
 use Rattle.answers.specs.Answers.{Answered}
 use Rattle.answers.specs.declared.Refusal.{Refusal}
 use Rattle.rules.proofs.MessageLaws.{length-message}
@@ -90,5 +89,5 @@ module _ (i : ℕ) (small : i ≤ last) (out : List ℕ) (room : 37 + 4 * (i % 7
         pub not-lost : f ≡ None → ⊥
         not-lost a = cc comes_back
 
-pub sum_fits : (i : ℕ) (d : Shown) → d ≡ data_of (message_of i) → (length d.head.ack ≡ 8) × (d.head.n + d.len < 4294967296)
-sum_fits i d e = rw e (length-eight (message_of i).ack (omega (arith, ack-count i)), omega (arith, ack-count i, text-length i))
+pub sum_fits : (i : ℕ) (d : Shown) → d ≡ data_of (message_of i) → d.head.n + d.len < 4294967296
+sum_fits i d e = rw e (omega (arith, ack-count i, text-length i))

@@ -19,7 +19,7 @@ use Rattle.frame.specs.declared.Frame.TheVariants.{Data, Request}
 use Rattle.frame.specs.declared.Head.{Head}
 use Rattle.std.specs.Prelude as Rust
 use Rattle.std.specs.Prelude.{Some, None}
-use Rattle.frame.specs.Export.{eighteen, handed, ack_in, exported, Exported}
+use Rattle.frame.specs.Export.{eighteen, handed, exported, Exported}
 use Rattle.frame.proofs.Numbers.{length-eight}
 use Rattle.frame.proofs.Reading.{message-is, request-is, data-at, request-at}
 use Rattle.rules.proofs.StoresLaws.{sets-++, sets-written}
@@ -73,6 +73,10 @@ few l x h = ⊎_elim from-message from-request (decode-read l x h)
         subst (λ y. length (ack_of y) ≤ 8) (sym (request-is l r.fit) ∙ r.same)
         (omega (arith, length-all_numbers 4 (count_at l 20) (drop 22 l), (request-at l r.fit).few))
 
+abbrev ack_in : Frame → List ℕ
+ack_in (Data d) = d.head.ack
+ack_in (Request r) = r.head.ack
+
 length-handed : (f : Frame) → length (ack_in f) ≡ 8 → length (handed f) ≡ 18
 length-handed (Data d) h = length-eighteen 1 d.head d.seq _ h refl
 length-handed (Request r) h = length-eighteen 2 r.head 0 _ h refl
@@ -95,7 +99,7 @@ module _ (l : List ℕ) where
   refused-out e out = record { answers = rw (← e); leaves = rw (← e) }
 
   module _ (f : Frame) (e : Some f ≡ frame_of (decode l)) where
-    pub acks-eight : length (ack_in f) ≡ 8
+    acks-eight : length (ack_in f) ≡ 8
     acks-eight = acks-of l (decode l) refl f e
 
     pub no_room : (out : List ℕ) → length out < 18 → Exported l out 16 out

@@ -15,10 +15,6 @@ abbrev pub handed : Frame → List ℕ
 handed (Data d) = eighteen 1 d.head d.seq (d.buf ∷ 0 ∷ 0 ∷ d.start ∷ d.len ∷ [])
 handed (Request r) = eighteen 2 r.head 0 (0 ∷ r.lsrc ∷ r.lseq ∷ 0 ∷ 0 ∷ [])
 
-abbrev pub ack_in : Frame → List ℕ
-ack_in (Data d) = d.head.ack
-ack_in (Request r) = r.head.ack
-
 pub record Handed : Type 0 where
   pub answer : ℕ
   pub numbers : List ℕ

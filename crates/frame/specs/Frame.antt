@@ -6,7 +6,6 @@ use Rattle.rules.specs.Bytes.{number}
 use Rattle.rules.specs.Message.{Message, Request, Said, message, request, no_zero}
 use Rattle.frame.specs.declared.Head.{Head}
 use Rattle.frame.specs.declared.Frame.{Frame}
-use Rattle.frame.specs.declared.Frame.TheVariants as Frame
 use Rattle.frame.specs.declared.Data.{Data as Shown}
 use Rattle.frame.specs.declared.Request.{Request as Asked}
 use Rattle.frame.specs.Acks.{eight, acks_at}

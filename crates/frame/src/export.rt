@@ -2,14 +2,15 @@
 ghost use Rattle.std.specs.Prelude.{◌≡◌, ◌≤◌, length};
 ghost use Rattle.std.proofs.lemmas.List.Edits.{sets};
 ghost use Rattle.frame.specs.Table.{code_of};
-ghost use Rattle.frame.specs.Export.{eighteen, handed, ack_in, Exported};
+ghost use Rattle.frame.specs.Export.{eighteen, handed, Exported};
 
 use crate::table::Kind;
 use crate::{Frame, Head, read};
+use answers::Refusal;
 
 // Stores the 18 numbers of a frame: SEQ stands before n, and five numbers after ACK.
 fn put_numbers(out: &mut [u64], kind: Kind, head: Head, seq: u32, after: &[u64; 5])
-    requires { (18 ≤ length out.old) × (length head.ack ≡ 8) }
+    requires { 18 ≤ length out.old }
     ensures { out.new ≡ sets out.old 0 (eighteen (code_of kind) head seq after.now) }
 {
     let code = u8::from(kind);
@@ -29,7 +30,7 @@ fn put_numbers(out: &mut [u64], kind: Kind, head: Head, seq: u32, after: &[u64; 
 
 // Stores the 18 numbers of a frame, 0 for what its kind lacks.
 fn hand_out(out: &mut [u64], frame: Frame)
-    requires { (18 ≤ length out.old) × (length (ack_in frame) ≡ 8) }
+    requires { 18 ≤ length out.old }
     ensures { out.new ≡ sets out.old 0 (handed frame) }
 {
     match frame {
@@ -50,15 +51,16 @@ fn hand_out(out: &mut [u64], frame: Frame)
     }
 }
 
+// Kept: answer numbers, since C calls it (the C interface).
 // Reads a frame: 0 and the 18 numbers; 3 where it is no frame; 16 where `numbers` has no room for 18.
 pub fn co_read_frame(frame: &[u8], numbers: &mut [u64]) -> u32
     ensures { Exported frame.now numbers.old result numbers.new }
 {
     let Some(frame) = read(frame) else {
-        return 3;
+        return u32::from(Refusal::NotAFrame);
     };
     if numbers.len() < 18 {
-        return 16;
+        return u32::from(Refusal::OutputTooShort);
     }
     hand_out(numbers, frame);
     0

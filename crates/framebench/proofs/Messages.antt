@@ -1,13 +1,19 @@
 -- Message i is lawful, the writer takes it where there is room, and the reader reads it back.
-use Rattle.std.proofs.Common.{◌≡◌, ℕ, zero, suc, ◌+◌, ◌*◌, ◌%◌, ◌<◌, ◌≤◌, List, length, take, replicate, sym, refl, arith, length-take-le, le-ltb}
-use mathlib.Core.Option.{some}
+use Rattle.std.proofs.Common.{◌≡◌, ℕ, zero, suc, ◌+◌, ◌*◌, ◌%◌, ◌<◌, ◌≤◌, List, length, take, replicate, arith, length-take-le, le-ltb}
 use lib.ListN.{length-replicate}
-use Rattle.rules.specs.Message.{message, last, decode}
+use Rattle.rules.specs.Message.{message, last, encode, decode}
 use Rattle.rules.specs.Lawful.{Each, nil, cons, Lawful}
 use Rattle.rules.proofs.MapsLaws.{is-between}
 use Rattle.frame.specs.declared.Frame.{Frame}
-use Rattle.frame.specs.Frame.{frame_of}
-use Rattle.frame.proofs.Numbers.{length-eight}
+use Rattle.frame.specs.Frame.{data_of, frame_of}
+use Rattle.answers.specs.Answers.{Answered}
+use Rattle.answers.specs.declared.Refusal.{Refusal}
+use Rattle.rules.proofs.MessageLaws.{length-message}
+use Rattle.std.specs.Prelude as Rust
+use Rattle.std.specs.Prelude.{Some, None, Ok, Err}
+use Rattle.frame.specs.declared.Frame.TheVariants.{Data, Request}
+use Rattle.frame.specs.declared.Request.{Request as Asked}
+use Rattle.frame.specs.declared.Data.{Data as Shown}
 use Rattle.framewrite.specs.Writing.{data_written, Wrote}
 use Rattle.framewrite.proofs.RoundTrip.{read-write-data}
 use Rattle.framebench.specs.Rounds.{message_of}
@@ -44,18 +50,44 @@ lawful i h =
       text = each-of-one (λ x. x < 256) 120 (omega arith) (i % 49) 48;
     }
 
-module _ (i : ℕ) (out : List ℕ) (room : 37 + 4 * (i % 7 + 2) + i % 49 ≤ length out) where
-  taken : (data_written (i % 7 + 2) (message_of i) out).answer ≡ 0
+-- the writer takes message i, and what it wrote is read back
+module _ (i : ℕ) (small : i ≤ last) (out : List ℕ) (room : 37 + 4 * (i % 7 + 2) + i % 49 ≤ length out) where
+  abbrev size : ℕ
+  size = 37 + 4 * (i % 7 + 2) + i % 49
+
+  taken : (data_written (i % 7 + 2) (message_of i) out).given ≡ Ok size
   unfolding data_written
   taken =
+      let long : length (encode (message (message_of i))) ≡ size = omega (arith, length-message (message_of i), ack-count i, text-length i) in
       rw
-      (is-between 2 8 (i % 7 + 2) (omega arith) (omega arith), le-ltb 48 (length (message_of i).text) (omega (arith, text-length i)), le-ltb (length out) (37 + 4 * (i % 7 + 2) + length (message_of i).text) (omega (arith, text-length i)))
-      refl
+      (is-between 2 8 (i % 7 + 2) (omega arith) (omega arith), le-ltb 48 (length (message_of i).text) (omega (arith, text-length i)), le-ltb (length out) (37 + 4 * (i % 7 + 2) + length (message_of i).text) (omega (arith, text-length i)), long)
 
-  pub comes_back : (a : ℕ) (after : List ℕ) → i ≤ last → Wrote (data_written (i % 7 + 2) (message_of i) out) a after → (r : Frame) → r ≡ frame_of (decode (take (37 + 4 * (i % 7 + 2) + i % 49) after)) → r ≡ frame_of (some (message (message_of i)))
-  comes_back a after h w r e =
-      read-write-data (i % 7 + 2) (message_of i) (lawful i h) out after (record { answers = sym taken; leaves = w.leaves }) r (rw (ack-count i, text-length i) e)
+  module _ (r : Answered ℕ) (after : List ℕ) (w : Wrote (data_written (i % 7 + 2) (message_of i) out) r after) where
+    pub no-refusal : (e : Refusal) → r ≡ Err e → ⊥
+    no-refusal e h = cc (w.gives, taken, h)
 
-pub sum_fits : (i : ℕ) (f : Frame) → f ≡ frame_of (some (message (message_of i))) → (length f.ack ≡ 8) × (f.n + f.len < 4294967296)
-unfolding frame_of
-sum_fits i f e = rw e (length-eight (message_of i).ack (omega (arith, ack-count i)), omega (arith, ack-count i, text-length i))
+    module _ (k : ℕ) (h : r ≡ Ok k) where
+      size-given : k ≡ size
+      size-given = cc (w.gives, taken, h)
+
+      pub inside : k ≤ length out
+      inside = omega (arith, size-given)
+
+      module _ (f : Rust.Option Frame) (e : f ≡ frame_of (decode (take k after))) where
+        comes_back : f ≡ Some (Data (data_of (message_of i)))
+        unfolding frame_of
+        comes_back =
+            let size-is : 37 + 4 * length (message_of i).ack + length (message_of i).text ≡ k = omega (arith, size-given, ack-count i, text-length i) in
+            read-write-data (i % 7 + 2) (message_of i) (lawful i small) out after k (rw (← h) w) f (rw size-is e)
+
+        pub data-back : (x : Frame) → f ≡ Some x → (d : Shown) → x ≡ Data d → d ≡ data_of (message_of i)
+        data-back x a d b = cc comes_back
+
+        pub no-request : (x : Frame) → f ≡ Some x → (q : Asked) → x ≡ Request q → ⊥
+        no-request x a q b = cc comes_back
+
+        pub not-lost : f ≡ None → ⊥
+        not-lost a = cc comes_back
+
+pub sum_fits : (i : ℕ) (d : Shown) → d ≡ data_of (message_of i) → d.head.n + d.len < 4294967296
+sum_fits i d e = rw e (omega (arith, ack-count i, text-length i))

@@ -1,9 +1,8 @@
 -- The messages that are written and read back, and the sums of what is read.
 use Rattle.std.specs.Prelude.{ℕ, zero, suc, ◌+◌, ◌%◌, ◌^◌, take, replicate, slice_index}
-use Rattle.std.proofs.Math.Option.{some}
-use Rattle.rules.specs.Message.{Message, message}
-use Rattle.frame.specs.declared.Frame.{Frame}
-use Rattle.frame.specs.Frame.{frame_of}
+use Rattle.rules.specs.Message.{Message}
+use Rattle.frame.specs.declared.Data.{Data}
+use Rattle.frame.specs.Frame.{data_of}
 
 -- message i: n goes round 2 to 8 and the data round 0 to 48 bytes
 abbrev pub message_of : ℕ → Message
@@ -20,10 +19,10 @@ message_of i =
 abbrev pub plus : ℕ → ℕ → ℕ
 plus a b = (a + b) % 2 ^ 32
 
-abbrev pub sum_of : Frame → ℕ
-sum_of f = plus (plus f.cid f.src) (plus (plus f.seq (slice_index f.ack 0)) (plus f.buf (f.n + f.len)))
+abbrev pub sum_of : Data → ℕ
+sum_of d = plus (plus d.head.cid d.head.src) (plus (plus d.seq (slice_index d.head.ack 0)) (plus d.buf (d.head.n + d.len)))
 
 -- the sums of the first messages
 abbrev pub total_of : ℕ → ℕ
 total_of zero = 0
-total_of (suc i) = plus (total_of i) (sum_of (frame_of (some (message (message_of i)))))
+total_of (suc i) = plus (total_of i) (sum_of (data_of (message_of i)))

@@ -6,9 +6,9 @@ pub loop-i-preserved : goal.loop-i-preserved
 loop-i-preserved c =
     let i = c.loop-i.i in
     let one_more : suc i ≡ i + 1 = omega arith in
-    (omega arith, c.wrapping_add_u32-total.ensures.value ∙ ap₂ plus c.loop-i.invariant.1 c.back.ensures ∙ ap total_of one_more)
+    ap₂ plus c.loop-i.invariant c.back-total.ensures ∙ ap total_of one_more
 
 pub returns : goal.returns
 returns c =
     let all : c.loop-i.i ≡ c.args.rounds = omega arith in
-    c.loop-i.invariant.1 ∙ ap total_of all
+    c.loop-i.invariant ∙ ap total_of all

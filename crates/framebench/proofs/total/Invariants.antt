@@ -1,10 +1,7 @@
 -- `total` meets its contract: after i rounds it has the sum of the first i messages.
-use Rattle.std.proofs.Common.{◌≡◌, ◌-◌, ◌≤◌}
+use Rattle.std.proofs.Common.{◌≡◌}
 use Rattle.framebench.specs.Rounds.{total_of}
 use Rattle.framebench.proofs.total.Given as goal
 
 abbrev pub invariant-loop-i : goal.invariant-loop-i
-invariant-loop-i l = (l.i ≤ l.rounds) × (l.total ≡ total_of l.i)
-
-abbrev pub decreases-loop-i : goal.decreases-loop-i
-decreases-loop-i l = l.rounds - l.i
+invariant-loop-i l = l.total ≡ total_of l.i

@@ -18,6 +18,6 @@ loop-k-preserved c =
 pub returns : goal.returns
 returns c =
     let a = c.args in
-    puts _ a.head a.seq a.after.now c.requires.1 a.out.now _ _ _ c.requires.0 (omega arith)
+    puts _ a.head a.seq a.after.now (omega arith) a.out.now _ _ _ c.requires (omega arith)
     (cc (c.copy_from_slice.ensures.after, c.from-code.ensures, c.from.ensures, c.from-2.ensures, c.from-3.ensures, c.from-4.ensures))
     (all-stored _ _ _ _ _ c.loop-k.invariant (omega arith)) c.copy_from_slice-2.ensures.after

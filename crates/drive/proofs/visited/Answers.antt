@@ -1,7 +1,5 @@
 -- `visited` meets its contract: what the unit shows after a send, or after an arrival.
-use native.Mathlib.Omega.{arith}
-use mathlib.Core.Path.{refl, sym}
-use lib.Seq.{length-take-le}
+use mathlib.Core.Path.{refl}
 use Rattle.drive.specs.Run.{visit_of}
 use Rattle.drive.proofs.visited.Goals as goal
 
@@ -10,9 +8,6 @@ unfolding visit_of
 returns-then-sends c =
     rw c.if-sends.true
     (record { result = rw (← c.send-s.ensures.exact) c.all_taken.ensures; output = c.send-s.ensures.bytes })
-
-pub slice_bounds-arrive-end-2 : goal.slice_bounds-arrive-end-2
-slice_bounds-arrive-end-2 c = sym (length-take-le _ _ (omega arith))
 
 pub returns : goal.returns
 unfolding visit_of

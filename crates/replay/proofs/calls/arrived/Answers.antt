@@ -4,4 +4,4 @@ use Rattle.replay.proofs.calls.arrived.Goals as goal
 
 pub returns : goal.returns
 unfolding arrive_made
-returns c = rw c.arrive-m.ensures.exact
+returns c = rw (c.bare.ensures, c.arrive-m.ensures.exact)

@@ -6,6 +6,7 @@ pub returns : goal.returns
 unfolding open_made
 returns c =
     rw (
+      c.bare.ensures,
       c.open-o.ensures.exact,
       c.number_at.ensures,
       c.number_at-2.ensures,

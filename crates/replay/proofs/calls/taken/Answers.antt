@@ -4,4 +4,4 @@ use Rattle.replay.proofs.calls.taken.Goals as goal
 
 pub returns : goal.returns
 unfolding take_made
-returns c = record { result = rw c.take-m.ensures.exact; output = c.take-m.ensures.bytes }
+returns c = record { result = rw (c.bare.ensures, c.take-m.ensures.exact); output = c.take-m.ensures.bytes }

@@ -1,7 +1,8 @@
--- `changes::changed` meets its contract: one part after the other.
-use Rattle.replay.specs.Changes.{changed_of}
+-- `changes::changed` meets its contract: a number past the last sets nothing.
+use Rattle.replay.proofs.ChangeLaws.{changed-none}
 use Rattle.replay.proofs.changes.changed.Goals as goal
 
-pub returns : goal.returns
-unfolding changed_of
-returns c = rw (c.with_order-o.ensures, c.with_message-f.ensures, c.with_entry-e.ensures, c.with_number-d.ensures, c.with_ack-acks.ensures)
+pub returns-in_default : goal.returns-in_default
+returns-in_default c =
+    let a = c.args in
+    changed-none a.u a.what a.k a.j a.x c.in_default.ensures.1

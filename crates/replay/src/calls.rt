@@ -1,10 +1,11 @@
 // A call on a unit, as its record names it.
-ghost use Rattle.std.specs.Prelude.{◌≡◌, ◌≤◌, length};
+ghost use Rattle.std.specs.Prelude.{◌≡◌, ◌+◌, ◌*◌, ◌≤◌, length};
+ghost use Rattle.rules.specs.Maps.{listed};
 ghost use Rattle.handing.specs.Handing.{Gives};
 ghost use Rattle.replay.specs.Calls.{gives, open_made, send_made, arrive_made, handed_made, take_made, look_made, made_of};
 ghost use Rattle.replay.specs.Kinds.{call_number};
 ghost use Rattle.replay.specs.Changes.{changed_of};
-ghost use Rattle.replay.specs.Record.{byte_at, call_of};
+ghost use Rattle.replay.specs.Record.{byte_at, number_at, call_of};
 
 use crate::changes::changed;
 use crate::kinds::Call;
@@ -40,25 +41,26 @@ impl Made {
     }
 }
 
+// The eight first numbers of an opening.
+fn firsts(s: &[u8]) -> [u32; 8]
+    ensures { result ≡ listed 0 8 (λ k. number_at s.now (11 + 4 * k)) }
+{
+    let mut first = [0; 8];
+    for k in 0..8 {
+        first[k] = number_at(s, 11 + 4 * k);
+    }
+    first
+}
+
 fn opened(s: &[u8]) -> Made
     ensures { result ≡ open_made s.now }
 {
-    let first = [
-        number_at(s, 11),
-        number_at(s, 15),
-        number_at(s, 19),
-        number_at(s, 23),
-        number_at(s, 27),
-        number_at(s, 31),
-        number_at(s, 35),
-        number_at(s, 39),
-    ];
     let o = Unit::open(Opening {
         me: tables::byte(s, 8),
         n: tables::byte(s, 9),
         w: tables::byte(s, 10),
         cid: number_at(s, 2),
-        first,
+        first: firsts(s),
     });
     Made::bare(o.answer, o.unit)
 }

@@ -8,6 +8,7 @@ use tables;
 use unit::Unit;
 
 // Stores a number where the list has such a place.
+// Kept: with `if let Some(place) = d.get_mut(at)` it stayed open that the list is as it was where there is no such place.
 fn put(d: &mut [u32], at: usize, x: u32)
     ensures { d.new ≡ set d.old at x }
 {

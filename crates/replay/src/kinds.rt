@@ -2,7 +2,7 @@
 ghost use Rattle.replay.specs.Kinds.{NamesCall, NamesSetting};
 
 // A call on a unit.
-#[derive(Clone, Copy, Debug, PartialEq, Eq)]
+#[derive(Clone, Copy)]
 pub enum Call {
     Open,
     Send,
@@ -20,7 +20,7 @@ pub enum Call {
 }
 
 // What call 12 sets: a number of the unit, of row k and column j, or of the message at position k.
-#[derive(Clone, Copy, Debug, PartialEq, Eq)]
+#[derive(Clone, Copy)]
 pub enum Setting {
     Seq,
     Req,
@@ -39,7 +39,7 @@ pub enum Setting {
 }
 
 // A number that names nothing.
-#[derive(Clone, Copy, Debug, PartialEq, Eq)]
+#[derive(Clone, Copy)]
 pub struct Unknown(pub u8);
 
 impl TryFrom<u8> for Call {

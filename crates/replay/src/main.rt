@@ -40,6 +40,7 @@ fn closed() -> [Unit; Unit::MOST_UNITS]
 }
 
 // The output before a call.
+#[tactic(auto, unfolding(crate::specs::Run::blank))]
 fn blank() -> [u8; 256]
     ensures { result ≡ blank }
 {

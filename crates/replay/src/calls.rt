@@ -52,6 +52,7 @@ fn firsts(s: &[u8]) -> [u32; 8]
     first
 }
 
+#[tactic(auto, unfolding(crate::specs::Calls::open_made))]
 fn opened(s: &[u8]) -> Made
     ensures { result ≡ open_made s.now }
 {
@@ -65,6 +66,7 @@ fn opened(s: &[u8]) -> Made
     Made::bare(o.answer, o.unit)
 }
 
+#[tactic(auto, unfolding(crate::specs::Calls::send_made))]
 fn sent(u: Unit, text: &[u8], out: &mut [u8]) -> Made
     ensures { Gives (send_made u text.now out.old) result out.new }
 {
@@ -76,6 +78,7 @@ fn sent(u: Unit, text: &[u8], out: &mut [u8]) -> Made
     }
 }
 
+#[tactic(auto, unfolding(crate::specs::Calls::arrive_made))]
 fn arrived(u: Unit, frame: &[u8]) -> Made
     ensures { result ≡ arrive_made u frame.now }
 {
@@ -97,6 +100,7 @@ fn handed(u: Unit, h: Handed) -> Made
     }
 }
 
+#[tactic(auto, unfolding(crate::specs::Calls::take_made))]
 fn taken(u: Unit, out: &mut [u8]) -> Made
     ensures { Gives (take_made u out.old) result out.new }
 {
@@ -127,6 +131,7 @@ fn set(u: Unit, s: &[u8], x: u32) -> Made
 }
 
 // The call of a record. Calls that write nothing leave the output as it was.
+#[tactic(auto, unfolding(crate::specs::Calls::made_of, crate::specs::Calls::ask_made, crate::specs::Calls::copy_made, crate::specs::Calls::seen_made))]
 fn named(u: Unit, call: Call, s: &[u8], out: &mut [u8]) -> Made
     requires { (208 ≤ length s.now) × (call_number call ≡ call_of s.now) }
     ensures { Gives (made_of u s.now out.old) result out.new }

@@ -61,6 +61,7 @@ fn all_taken(first: Unit, before: u32) -> Summed
 
 // The unit sends the data, or the frame arrives there, and everything is taken.
 // Kept: an enum of the two steps would be chosen by the very test that is passed here, so it is no plainer than `sends`.
+#[tactic(auto, unfolding(crate::specs::Run::visit_of))]
 fn visited(u: Unit, sends: bool, text: &[u8], frame: &mut [u8], len: usize, sum: u32) -> Summed
     requires { len ≤ length frame.old }
     ensures { Gives (visit_of u sends text.now frame.old len sum) result frame.new }

@@ -1,29 +1,16 @@
--- The call that a record names, and a number that names none.
+-- A number that names no call.
 use mathlib.Core.List.{List}
-use mathlib.Core.Bool.{Bool, true, false, cond}
-use mathlib.Core.Path.{◌≡◌, refl, sym, ap, ◌∙◌}
-use mir.Val.{bool_byte}
+use mathlib.Core.Path.{◌≡◌}
 use Prim.Native.Nat.{ℕ, ◌<◌}
 use native.Mathlib.Omega.{arith}
 use borrow.Author.Tests.{ne_eqb}
 use Rattle.unit.specs.declared.Unit.{Unit}
-use Rattle.replay.specs.declared.kinds.Call.{Call}
-use Rattle.replay.specs.Kinds.{call_number}
 use Rattle.replay.specs.Record.{call_of}
 use Rattle.replay.specs.Calls.{gives, writes_none, seen_made, made_of}
 
--- the call that was named says which number stands there
-pub named : {call v : Call} (l : List ℕ) → call_number call ≡ call_of l → call ≡ v → call_of l ≡ call_number v
-named l e k = sym e ∙ ap call_number k
-
--- a test as a number
-pub as-number : (b : Bool) → bool_byte b ≡ cond b 1 0
-as-number true = refl
-as-number false = refl
-
-pub made-none : (u : Unit) (l out : List ℕ) → 12 < call_of l → writes_none out (gives 0 0 0 0 u) ≡ made_of u l out
+pub made_none : (u : Unit) (l out : List ℕ) → 12 < call_of l → writes_none out (gives 0 0 0 0 u) ≡ made_of u l out
 unfolding made_of seen_made
-made-none u l out h =
+made_none u l out h =
     let n : ℕ = call_of l in
     rw (
       ne_eqb n 0 (λ e. omega arith),

@@ -1,18 +1,15 @@
 -- A number that names nothing leaves the unit as it was.
-use mathlib.Core.Logic.{◌≢◌}
 use mathlib.Core.Path.{◌≡◌}
 use Prim.Native.Nat.{ℕ, ◌<◌}
 use native.Mathlib.Omega.{arith}
 use borrow.Author.Tests.{ne_eqb}
-use Rattle.lists.specs.declared.Order.{Order}
-use Rattle.state.specs.declared.Core.{Core}
 use Rattle.unit.specs.declared.Unit.{Unit}
-use Rattle.replay.specs.Changes.{with_number, with_entry, with_message, with_order, with_ack, changed_of}
+use Rattle.replay.specs.Changes.{changed_of}
 
 -- a number past the last sets nothing
-pub changed-none : (u : Unit) (what k j x : ℕ) → 13 < what → u ≡ changed_of u what k j x
-unfolding changed_of with_number with_entry with_message with_order with_ack
-changed-none u what k j x h =
+pub changed_none : (u : Unit) (what k j x : ℕ) → 13 < what → u ≡ changed_of u what k j x
+unfolding changed_of
+changed_none u what k j x h =
     rw (
       ne_eqb what 0 (λ e. omega arith),
       ne_eqb what 1 (λ e. omega arith),

@@ -127,7 +127,16 @@ fn looked(u: Unit, l: Look) -> Made
 fn set(u: Unit, s: &[u8], x: u32) -> Made
     ensures { result ≡ gives 0 0 0 0 (changed_of u (byte_at s.now 8) (byte_at s.now 9) (byte_at s.now 10) x) }
 {
-    Made::bare(0, changed(u, tables::byte(s, 8), tables::byte(s, 9), tables::byte(s, 10), x))
+    Made::bare(
+        0,
+        changed(
+            u,
+            tables::byte(s, 8),
+            tables::byte(s, 9),
+            tables::byte(s, 10),
+            x,
+        ),
+    )
 }
 
 // The call of a record. Calls that write nothing leave the output as it was.
@@ -159,6 +168,7 @@ fn named(u: Unit, call: Call, s: &[u8], out: &mut [u8]) -> Made
 }
 
 // The call that a record names; where there is no such call, nothing is done.
+#[tactic(auto, using(crate::proofs::CallLaws::made_none))]
 pub fn make(u: Unit, s: &[u8], out: &mut [u8]) -> Made
     requires { 208 ≤ length s.now }
     ensures { Gives (made_of u s.now out.old) result out.new }

@@ -18,17 +18,7 @@ fn put(d: &mut [u32], at: usize, x: u32)
 }
 
 // One number of the unit is set to x: of row k and column j, or of the message at position k.
-#[tactic(
-    auto,
-    unfolding(
-        crate::specs::Changes::changed_of,
-        crate::specs::Changes::with_number,
-        crate::specs::Changes::with_entry,
-        crate::specs::Changes::with_message,
-        crate::specs::Changes::with_order,
-        crate::specs::Changes::with_ack
-    )
-)]
+#[tactic(auto, unfolding(crate::specs::Changes::changed_of))]
 fn set(u: &mut Unit, what: Setting, k: u8, j: u8, x: u32)
     ensures { u.new ≡ changed_of u.old (setting_number what) k j x }
 {
@@ -58,6 +48,7 @@ fn set(u: &mut Unit, what: Setting, k: u8, j: u8, x: u32)
 }
 
 // One number of the unit is set to x; where there is no such thing, none is.
+#[tactic(auto, using(crate::proofs::ChangeLaws::changed_none))]
 pub fn changed(u: Unit, what: u8, k: u8, j: u8, x: u32) -> Unit
     ensures { result ≡ changed_of u what k j x }
 {

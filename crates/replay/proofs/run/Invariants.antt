@@ -1,6 +1,6 @@
 -- `run` meets its contract: after i records it has the units and the replies of i records.
 use mathlib.Core.Path.{◌≡◌}
-use Prim.Native.Nat.{◌-◌, ◌≤◌}
+use Prim.Native.Nat.{◌≤◌}
 use lib.ListN.{length}
 use Rattle.replay.proofs.RunLaws.{After}
 use Rattle.replay.proofs.run.Given as goal

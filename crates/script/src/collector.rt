@@ -50,11 +50,11 @@ impl Collector {
         line::LONGEST
     }
 
-    pub fn read(self) -> Line
+    pub fn read(self) -> Option<Line>
         ensures { result ≡ shown (command_in (begun_of self)) }
     {
         if self.long {
-            return Line::Unreadable;
+            return None;
         }
         let bytes = self.bytes;
         let n = self.size();

@@ -1,5 +1,7 @@
 -- No line that is printed is longer than 84 bytes, so that an output of 84 bytes has room for each.
 use mathlib.Core.List.{List, [], ◌∷◌}
+use mathlib.Core.Path.{◌≡◌, sym, ◌∙◌}
+use Rattle.std.specs.Prelude.{Option, Some, IsSome}
 use Prim.Native.Nat.{ℕ, ◌<◌, ◌≤◌}
 use native.Mathlib.Omega.{arith}
 use lib.ListN.{length, take, length-take}
@@ -12,9 +14,14 @@ use Rattle.script.proofs.WrittenLaws.{length-joined, length-joined-last, length_
 use Rattle.bench.specs.Prints.{Prints}
 
 -- where there was room, the whole text was written
-pub wrote-prints : {out text after : List ℕ} {r : ℕ} → length text ≤ length out → Wrote out text r after → Prints text out r after
-wrote-prints {out} {text} h w =
-    record { count = rw (le-leb (length text) (length out) h) at w.count; bytes = rw (le-leb (length text) (length out) h) at w.bytes }
+pub wrote-some : {out text after : List ℕ} {r : Option ℕ} → length text ≤ length out → Wrote out text r after → IsSome r
+wrote-some {out} {text} h w = rw (w.count, le-leb (length text) (length out) h)
+
+pub wrote-prints : {out text after : List ℕ} {r : Option ℕ} {len : ℕ} → length text ≤ length out → Wrote out text r after → r ≡ Some len
+    → Prints text out len after
+wrote-prints {out} {text} {len = len} h w is =
+    let whole : Some len ≡ Some (length text) = sym is ∙ rw (le-leb (length text) (length out) h) at w.count in
+    record { count = cc; bytes = rw (le-leb (length text) (length out) h) at w.bytes }
 
 -- a number of 32 bits
 ten : (x : ℕ) → x < 4294967296 → length (decimal x) ≤ 10

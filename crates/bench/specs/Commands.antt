@@ -13,9 +13,8 @@ use Rattle.script.specs.Desk.{Reply, unknown, answers, took, lent, act}
 use Rattle.script.specs.Desk as script
 use Rattle.script.specs.Print.{reply_line}
 use Rattle.script.specs.declared.line.Line.{Line}
-use Rattle.script.specs.declared.line.Line.TheVariants.{Group, Send, Arrive, Request, Take, Unreadable}
+use Rattle.script.specs.declared.line.Line.TheVariants.{Group, Send, Arrive, Request, Take}
 use Rattle.bench.specs.declared.desk.Desk.{Desk}
-use Rattle.bench.specs.declared.commands.Done.{Done}
 use Rattle.bench.specs.Prints.{longest, Prints}
 use Rattle.bench.specs.Desk.{unit_at, frame_in, desk_of, Fits, with_unit, kept_in}
 
@@ -36,7 +35,7 @@ ignored d = record { desk = d; reply = unknown }
 abbrev pub after_send : Desk → ℕ → Given Sent → Acted
 after_send d u g =
     let s : Sent = g.result in
-    record { desk = kept_in (with_unit d u s.unit) s.answer g.output s.len; reply = answers s.answer }
+    record { desk = kept_in (with_unit d u s.unit) s.answer (record { bytes = g.output; len = s.len }); reply = answers s.answer }
 
 abbrev pub after_arrival : Desk → ℕ → Arrived → Acted
 after_arrival d u a = record { desk = with_unit d u a.unit; reply = answers a.answer }
@@ -44,7 +43,7 @@ after_arrival d u a = record { desk = with_unit d u a.unit; reply = answers a.an
 abbrev pub after_request : Desk → Given Handed → Acted
 after_request d g =
     let h : Handed = g.result in
-    record { desk = kept_in d h.answer g.output h.len; reply = answers h.answer }
+    record { desk = kept_in d h.answer (record { bytes = g.output; len = h.len }); reply = answers h.answer }
 
 abbrev pub after_take : Desk → ℕ → Given Taken → Acted
 after_take d u g =
@@ -65,7 +64,7 @@ acted_of d (groups n w) = ignored d
 acted_of d (sends u word) = cond (between 1 d.n u) (after_send d u (sent_of (unit_at d u) word (lent 117))) (ignored d)
 acted_of d (arrives u f) =
     cond (between 1 d.n u && between 1 d.count f)
-    (after_arrival d u (arrived_of (unit_at d u) (frame_in d.store d.lens (f - 1))))
+    (after_arrival d u (arrived_of (unit_at d u) (frame_in d.frames (f - 1))))
     (ignored d)
 acted_of d (requests u k) = cond (between 1 d.n u) (after_request d (asked (unit_at d u) k)) (ignored d)
 acted_of d (takes u) = cond (between 1 d.n u) (after_take d u (taken_of (unit_at d u) (lent 48))) (ignored d)
@@ -73,12 +72,11 @@ acted_of d unreadable = ignored d
 
 -- the unit and the frame that a line names exist; there are n units and so many frames
 unfoldable pub names_known : ℕ → ℕ → Line → Bool
-names_known n count (Group m w) = true
+names_known n count (Group g) = true
 names_known n count (Send u len) = between 1 n u
 names_known n count (Arrive u f) = between 1 n u && between 1 count f
 names_known n count (Request u k) = between 1 n u
 names_known n count (Take u) = between 1 n u
-names_known n count Unreadable = true
 
 -- unit u of the group
 pub record Named (d : Desk) (u : ℕ) : Type 0 where
@@ -101,11 +99,11 @@ pub record CanAct (d : Desk) : Type 0 where
   pub fits : Fits d
   pub room : d.count < 64
 
--- `next` and `text` determine the result and every byte of the output; the others say what that means
-pub record Acts (d : Desk) (c : Command) (line : ℕ) (out : List ℕ) (r : Done) (out' : List ℕ) : Type 0 where
-  pub next : r.desk ≡ (acted_of d c).desk
-  pub text : Prints (reply_line line (acted_of d c).reply) out r.len out'
-  pub short : r.len ≤ longest
+-- `next` and `text` determine the group and every byte of the output; the others say what that means
+pub record Acts (d : Desk) (c : Command) (line : ℕ) (out : List ℕ) (e : Desk) (len : ℕ) (out' : List ℕ) : Type 0 where
+  pub next : e ≡ (acted_of d c).desk
+  pub text : Prints (reply_line line (acted_of d c).reply) out len out'
+  pub short : len ≤ longest
   pub means : as_script (acted_of d c) ≡ act (desk_of d) c
-  pub fits : Fits r.desk
-  pub more : r.desk.count ≤ d.count + 1
+  pub fits : Fits e
+  pub more : e.count ≤ d.count + 1

@@ -6,7 +6,7 @@ ghost use Rattle.std.specs.Prelude.{◌≡◌, ◌*◌, ◌<◌, ◌≤◌, leng
 ghost use Rattle.handing.specs.Handing.{Gives};
 ghost use Rattle.drive.specs.Run.{mixed, with_bytes, with_message, shown, visit_of, unit_of, opened_units, unit_at, run_of};
 
-use script::{Value, number};
+use script::number;
 use state::Opening;
 use std::io;
 use std::io::Read;
@@ -142,13 +142,13 @@ fn main(rt: HostRuntime) -> io::Result<()> {
     if end < 5 {
         return Ok(());
     }
-    let Value::Is(n) = number(&buffer[0..1]) else {
+    let Some(n) = number(&buffer[0..1]) else {
         return Ok(());
     };
-    let Value::Is(w) = number(&buffer[2..3]) else {
+    let Some(w) = number(&buffer[2..3]) else {
         return Ok(());
     };
-    let Value::Is(messages) = number(&buffer[4..end]) else {
+    let Some(messages) = number(&buffer[4..end]) else {
         return Ok(());
     };
     if !(1..=8).contains(&n) {

@@ -4,4 +4,4 @@ use Rattle.tables.proofs.RowLaws.{at_before}
 use Rattle.tables.proofs.at.Goals as goal
 
 pub returns : goal.returns
-returns c = c.get.ensures ∙ at_before c.args.a.now c.args.k c.if-k-eq0.false
+returns c = c.get_or.ensures ∙ at_before c.args.a.now c.args.k c.if-k-eq0.false

@@ -4,4 +4,4 @@ use Rattle.lists.proofs.confirm.ready.Goals as goal
 
 pub returns : goal.returns
 unfolding ready_at
-returns c = rw (← c.byte-p.ensures, ← c.row.ensures, ← c.least_of-low.ensures, ← c.get.ensures)
+returns c = rw (← c.get_or-p.ensures, ← c.row.ensures, ← c.least_of-low.ensures, ← c.get_or.ensures)

@@ -7,7 +7,7 @@ use Rattle.rules.proofs.MapsLaws.{length-listed}
 use Rattle.lists.specs.Order.{entry, ordereds}
 use Rattle.lists.specs.Settle.{precedes_at, before, order_joined_at}
 use Rattle.lists.proofs.IndexLaws.{index_of-le}
-use Rattle.lists.proofs.preack.joined.Goals as goal
+use Rattle.lists.proofs.preack.Said.joined.Goals as goal
 
 pub overflow_mul-p : goal.overflow_mul-p
 overflow_mul-p c =
@@ -21,12 +21,12 @@ overflow_add-p c =
     let byte : Fits w8 (entry s.o s.q) = search rules in
     search rules
 
-pub moved-places-requires : goal.moved-places-requires
+pub moved-requires : goal.moved-requires
 unfolding before
-moved-places-requires c =
+moved-requires c =
     let s = c.args in
     let o = s.o in
-    let most = index_of-le (precedes_at s.seqs.now s.acks.now (entry o s.q)) (ordereds o) in
+    let most = index_of-le (precedes_at s.self.now.seqs.now s.self.now.acks.now (entry o s.q)) (ordereds o) in
     let long = length-listed o.confirmed o.ordered (entry o) in
     let spot = c.spot.ensures in
     omega arith
@@ -35,4 +35,4 @@ pub returns : goal.returns
 unfolding order_joined_at
 returns c =
     rw
-    (← c.spot.ensures, ← c.tail-said.ensures, ← c.with_column-column.ensures, ← c.moved-places.ensures)
+    (← c.spot.ensures, ← c.tail-said.ensures, ← c.with_column.ensures, ← c.moved.ensures)

@@ -64,7 +64,3 @@ module _ (d₀ : List ℕ) (at : ℕ) (l d : List ℕ) (i : ℕ) (s : Stored d�
   all-stored h =
       let e : i ≡ length l = omega (arith, s.count) in
       ap (λ r. sets d (at + i) r) (sym (ap (λ k. drop k l) e ∙ drop-length l)) ∙ s.rest
-
-  -- it has come to the end of d
-  pub past-stored : length d ≤ at + i → d ≡ sets d₀ at l
-  past-stored h = sym (sets-past d (at + i) (drop i l) h) ∙ s.rest

@@ -5,5 +5,5 @@ use Rattle.store.proofs.column_stored.Goals as goal
 pub returns : goal.returns
 returns c =
     let s = c.args in
-    column-made s.c s.j _ _ _ _ _ _ c.with_column-new.ensures c.own_low-old.ensures
-    c.own_low.ensures c.above-gone.ensures c.move_down.ensures
+    column-made s.c s.j _ _ _ _ _ _ c.with_column-al.ensures c.own_low-old.ensures
+    c.own_low.ensures c.saturating_sub-gone.ensures c.move_down.ensures

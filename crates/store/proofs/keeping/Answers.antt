@@ -17,7 +17,7 @@ returns c =
     let len = c.args.len in
     let e = c.kept_slot-at.ensures in
     let long : length x.kept ≡ 4 = search rules in
-    ap (λ (n : ℕ). with_seq x n c.if-at-lt4.kept) c.next-next.ensures
+    ap (λ (n : ℕ). with_seq x n c.if-at-lt4.kept) c.next-seq.ensures
     ∙ ap (with_seq x (after x.seq))
     elim c.if-at-lt4.branch [
       | then-at-lt4 w ↦ w.kept-is ∙ ap (λ (i : ℕ). set x.kept i len) e

@@ -4,4 +4,4 @@ use Rattle.store.proofs.kept_slot.Goals as goal
 
 pub returns : goal.returns
 unfolding kept_slot
-returns c = rw (← c.own_low.ensures) c.above.ensures
+returns c = rw (← c.own_low.ensures) c.saturating_sub.ensures

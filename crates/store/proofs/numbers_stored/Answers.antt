@@ -15,8 +15,8 @@ returns c =
     let x = s.c in
     let r = set x.req (s.j - 1) s.next in
     let h = set x.heard (s.j - 1) (max (at x.heard s.j) s.next) in
-    ap (λ (l : List ℕ). with_rows x l c.with-h.result c.with-b.result) c.with-r.ensures
-    ∙ ap (λ (l : List ℕ). with_rows x r l c.with-b.result)
-    (c.with-h.ensures
-    ∙ ap (set x.heard (s.j - 1)) (c.larger.ensures ∙ ap (λ (k : ℕ). max k s.next) c.at.ensures))
-    ∙ ap (with_rows x r h) c.with-b.ensures
+    ap (λ (l : List ℕ). with_rows x l c.with-2.result c.with-3.result) c.with.ensures
+    ∙ ap (λ (l : List ℕ). with_rows x r l c.with-3.result)
+    (c.with-2.ensures
+    ∙ ap (set x.heard (s.j - 1)) (c.max.ensures ∙ ap (λ (k : ℕ). max k s.next) c.at.ensures))
+    ∙ ap (with_rows x r h) c.with-3.ensures

@@ -21,7 +21,7 @@ returns c =
     let lengths : length x.lens ≡ 128 = search rules in
     let seqs = set x.seqs s.place s.seq in
     let lens = set x.lens s.place s.len in
-    ap (with_place x c.if-p-lt128.seqs c.if-p-lt128.lens) c.with_last-longer.ensures
+    ap (with_place x c.if-p-lt128.seqs c.if-p-lt128.lens) c.with_last-order.ensures
     ∙ ap (λ (l : List ℕ). with_place x l c.if-p-lt128.lens (with_last x.order s.place))
     elim c.if-p-lt128.branch [ then-p-lt128 w ↦ w.seqs-is | else-p-lt128 w ↦ w.seqs-is ∙ sym (set_out x.seqs s.place s.seq (omega arith)) ]
     ∙ ap (λ (l : List ℕ). with_place x seqs l (with_last x.order s.place))

@@ -6,4 +6,4 @@ use Rattle.store.proofs.settled.Goals as goal
 
 pub returns : goal.returns
 unfolding settled_of
-returns c = ap (with_order c.args.c) c.settled-o.ensures
+returns c = ap (with_order c.args.c) c.settled-order.ensures

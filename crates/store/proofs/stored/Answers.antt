@@ -13,7 +13,7 @@ returns c =
     let j = sender_of m.place in
     let first = c.column_stored-s.result in
     ap (λ (x : Core). record { gone = first.gone; core = x })
-    (c.place_stored-f.ensures
+    (c.place_stored.ensures
     ∙ ap (λ (x : Core). place_stored x m.place m.seq m.len)
     (c.numbers_stored-e.ensures ∙ ap (λ (k : ℕ). numbers_stored first.core j k m.buf) c.next.ensures))
     ∙ ap (rest_stored m) c.column_stored-s.ensures

@@ -4,4 +4,4 @@ use Rattle.store.proofs.arrays.put_ack.Goals as goal
 
 pub returns : goal.returns
 unfolding with_ack
-returns c = c.put_numbers.ensures
+returns c = c.put.ensures

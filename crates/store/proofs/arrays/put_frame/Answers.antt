@@ -9,4 +9,4 @@ pub returns : goal.returns
 unfolding with_frame
 returns c =
     let s = c.args in
-    c.put_bytes.ensures ∙ ap (sets s.frames.now (117 * s.slot)) c.front.ensures
+    c.put.ensures ∙ ap (sets s.frames.now (117 * s.slot)) c.front.ensures

@@ -9,4 +9,4 @@ pub returns : goal.returns
 unfolding with_text
 returns c =
     let s = c.args in
-    c.put_bytes.ensures ∙ ap (sets s.bytes.now (48 * s.place)) c.front.ensures
+    c.put.ensures ∙ ap (sets s.bytes.now (48 * s.place)) c.front.ensures

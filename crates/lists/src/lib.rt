@@ -86,6 +86,7 @@ pub fn free_slot(o: Order, j: u8, most: u8) -> u8
 }
 
 // Place p waits, behind all others.
+#[tactic(auto, unfolding(crate::specs::Order::with_last))]
 pub fn with_last(o: Order, p: u8) -> Order
     ensures { result ≡ with_last o p }
 {
@@ -110,6 +111,7 @@ fn shifted(list: [u8; 128]) -> [u8; 128]
 }
 
 // Without the oldest confirmed place.
+#[tactic(auto, unfolding(crate::specs::Order::without_first))]
 pub fn without_first(o: Order) -> Order
     ensures { result ≡ without_first o }
 {
@@ -125,6 +127,7 @@ pub fn without_first(o: Order) -> Order
 }
 
 // Pre-acknowledges and confirms what can be. An order that says it has more places than there are is left alone.
+#[tactic(auto, unfolding(crate::specs::Settle::settled_of))]
 pub fn settled<'a>(o: Order, al: &'a [u32], seqs: &'a [u32], acks: &'a [u32], n: u8) -> Order
     ensures { result ≡ settled_of o al.now seqs.now acks.now n }
 {

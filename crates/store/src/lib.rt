@@ -28,6 +28,7 @@ pub struct Next {
 }
 
 // The slot of the frame to keep next.
+#[tactic(auto, unfolding(crate::specs::Store::kept_slot))]
 pub fn kept_slot(c: Core) -> u32
     ensures { result ≡ kept_slot c }
 {
@@ -35,6 +36,7 @@ pub fn kept_slot(c: Core) -> u32
 }
 
 // With column j of AL; kept lengths start at minAL of the own index.
+#[tactic(auto, unfolding(crate::specs::Store::column_stored))]
 fn column_stored(c: Core, j: u8, ack: [u32; 8]) -> Next
     ensures { result ≡ column_stored c j ack }
 {
@@ -48,6 +50,7 @@ fn column_stored(c: Core, j: u8, ack: [u32; 8]) -> Next
 }
 
 // With REQ_j, BUF_j and HEARD_j.
+#[tactic(auto, unfolding(crate::specs::Store::numbers_stored))]
 fn numbers_stored(c: Core, j: u8, next: u32, buf: u32) -> Core
     ensures { result ≡ numbers_stored c j next buf }
 {
@@ -60,6 +63,7 @@ fn numbers_stored(c: Core, j: u8, next: u32, buf: u32) -> Core
 }
 
 // With number and data length of the message at the place, which waits behind all others.
+#[tactic(auto, unfolding(crate::specs::Store::place_stored))]
 fn place_stored(c: Core, place: u8, seq: u32, len: u8) -> Core
     ensures { result ≡ place_stored c place seq len }
 {
@@ -80,6 +84,7 @@ fn place_stored(c: Core, place: u8, seq: u32, len: u8) -> Core
 }
 
 // Accepts a message.
+#[tactic(auto, unfolding(crate::specs::Store::stored_of))]
 pub fn stored(c: Core, m: Accepting) -> Next
     ensures { result ≡ stored_of c m }
 {
@@ -93,6 +98,7 @@ pub fn stored(c: Core, m: Accepting) -> Next
 }
 
 // Keeps a frame of this length.
+#[tactic(auto, unfolding(crate::specs::Store::keeping_of))]
 pub fn keeping(c: Core, len: u8) -> Core
     ensures { result ≡ keeping_of c len }
 {
@@ -106,6 +112,7 @@ pub fn keeping(c: Core, len: u8) -> Core
 }
 
 // Pre-acknowledges and confirms what can be.
+#[tactic(auto, unfolding(crate::specs::Store::settled_of))]
 pub fn settled(c: Core, acks: &[u32]) -> Core
     ensures { result ≡ settled_of c acks.now }
 {

@@ -137,6 +137,7 @@ pub fn least_of(a: &[u32], n: u8) -> u32
 }
 
 // None of the first n numbers is 0.
+#[tactic(auto, unfolding(crate::specs::Rows::none_zero))]
 pub fn none_zero(a: &[u32], n: u8) -> bool
     ensures { result ≡ none_zero n (at a.now) }
 {
@@ -161,6 +162,7 @@ pub fn table_none_zero(t: &[u32], n: u8) -> bool
 }
 
 // Each of the first n numbers but the j-th is at most that of the limits.
+#[tactic(auto, unfolding(crate::specs::Rows::below_but))]
 pub fn below_but<'a>(a: &'a [u32], limits: &'a [u32], n: u8, j: u8) -> bool
     ensures { result ≡ below_but n j (at a.now) (at limits.now) }
 {
@@ -173,6 +175,7 @@ pub fn below_but<'a>(a: &'a [u32], limits: &'a [u32], n: u8, j: u8) -> bool
 }
 
 // The table with the first eight of v as column j.
+#[tactic(auto, unfolding(crate::specs::Rows::with_column))]
 pub fn with_column(t: [u32; 64], j: u8, v: &[u32]) -> [u32; 64]
     ensures { result ≡ with_column t j v.now }
 {
@@ -187,6 +190,7 @@ pub fn with_column(t: [u32; 64], j: u8, v: &[u32]) -> [u32; 64]
 }
 
 // Column j of the table.
+#[tactic(auto, unfolding(crate::specs::Rows::column_of))]
 pub fn column_of(t: &[u32], j: u8) -> [u32; 8]
     ensures { result ≡ column_of t.now j }
 {
@@ -198,6 +202,7 @@ pub fn column_of(t: &[u32], j: u8) -> [u32; 8]
 }
 
 // Each of the first n numbers of a, raised to at least that of b.
+#[tactic(auto, unfolding(crate::specs::Rows::raised))]
 pub fn raised_to(a: [u32; 8], b: [u32; 8], n: u8) -> [u32; 8]
     ensures { result ≡ raised n a b }
 {

@@ -88,7 +88,8 @@ module _ (l : Collector) {out : List ℕ} where
   unfolding stage_said
   over_ended = record { steps = record { next = refl; text = prints-none out; short = omega arith; ready = tt }; means = over-means l }
 
-  module _ (d : Desk) (k : ℕ) (R : FitsLine d k) {e : Desk} {p : Reply} {len : ℕ} {out' : List ℕ} (a : Acts d (command_of (begun_of l)) e p) (w : PrintsLine (reply_line k (reply_of p)) out len out') where
+  module _ (d : Desk) (k : ℕ) (R : FitsLine d k) {e : Desk} {p : Reply} {len : ℕ} {out' : List ℕ}
+      (a : Acts d (command_of (begun_of l)) e p) (w : PrintsLine (reply_line k (reply_of p)) out len out') where
     pub later-ended : k < 65 → Ended (Later d k) l out (Later e (k + 1), len) out'
     unfolding stage_said
     later-ended h =
@@ -105,7 +106,10 @@ module _ (l : Collector) {out : List ℕ} where
     pub last-ended : 65 ≤ k → Ended (Later d k) l out (Over, len) out'
     unfolding stage_said
     last-ended h =
-        record { steps = record { next = rw (le-ltb k 65 h); text = rw a.reply at w.prints; short = w.short; ready = tt }; means = later-means d k R.desk l a.means }
+        record {
+          steps = record { next = rw (le-ltb k 65 h); text = rw a.reply at w.prints; short = w.short; ready = tt };
+          means = later-means d k R.desk l a.means;
+        }
 
 pub line_reads : (b : Bench) {out out' : List ℕ} {c : Collector} {r : Stage × ℕ} → c ≡ emptied → Ended b.stage b.line out r out'
     → Reads (line_said b) (read_line (reader_of b)) 84 out (record { line = c; stage = r.0 }) r.1 out'

@@ -39,7 +39,14 @@ module _ (d : Desk) where
   -- nothing was there to be called
   pub ignored-acts : {c : Command} → Fits d → Ignores d c → Acts d c d Unknown
   unfolding reply_of
-  ignored-acts f i = record { next = ap (λ x. x.desk) (sym i.here); reply = ap (λ x. x.reply) (sym i.here); means = rw (i.here, i.there); fits = f; more = omega arith }
+  ignored-acts f i =
+      record {
+        next = ap (λ x. x.desk) (sym i.here);
+        reply = ap (λ x. x.reply) (sym i.here);
+        means = rw (i.here, i.there);
+        fits = f;
+        more = omega arith;
+      }
 
   pub unreadable_none : Ignores d unreadable
   unfolding acted_of

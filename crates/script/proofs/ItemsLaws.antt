@@ -159,4 +159,7 @@ is_printable-is b = refl
 -- what `all` answers
 pub is_word-from : (s : List ℕ) {r : Bool} → 0 < length s → r ≡ list_all is_printable s → r ≡ is_word s
 unfolding is_word
-is_word-from s h e = rw (lt-ltb 0 (length s) h) (e ∙ same_from_clauses (list_all is_printable) (all is_printable) (λ b t. is_printable b && t) refl (λ b l. refl) (λ b l. refl) s)
+is_word-from s h e =
+    let same : list_all is_printable s ≡ all is_printable s
+    = same_from_clauses (list_all is_printable) (all is_printable) (λ b t. is_printable b && t) refl (λ b l. refl) (λ b l. refl) s in
+    rw (lt-ltb 0 (length s) h) (e ∙ same)

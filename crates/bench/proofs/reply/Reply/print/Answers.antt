@@ -32,7 +32,8 @@ returns-in-Unknown c = rw c.in-Unknown.is (line-printed (unknown-short c.args.li
 pub returns-in-Answers : goal.returns-in-Answers
 unfolding reply_of
 returns-in-Answers c =
-    rw c.in-Answers.is (line-printed (answer-short c.args.line c.in-Answers.a (search rules) (search rules)) c.requires c.answer_line.ensures c.unwrap-in-Answers.ensures)
+    rw c.in-Answers.is
+    (line-printed (answer-short c.args.line c.in-Answers.a (search rules) (search rules)) c.requires c.answer_line.ensures c.unwrap-in-Answers.ensures)
 
 pub returns-in-Took : goal.returns-in-Took
 unfolding reply_of

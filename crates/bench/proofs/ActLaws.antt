@@ -1,11 +1,10 @@
 -- What a command does with the group as the code holds it is what it does on the script's desk.
-use mathlib.Core.Bool.{Bool, true}
-use Rattle.std.specs.Prelude.{Option, Some}
+use mathlib.Core.Bool.{Bool, true, false, cond}
+use lib.Dec.{eqb}
 use mathlib.Core.List.{List, append-nil}
 use mathlib.Core.Path.{◌≡◌, refl, sym, ap, ◌∙◌}
 use Prim.Native.Nat.{ℕ, ◌+◌, ◌-◌, ◌<◌, ◌≤◌, min}
 use native.Mathlib.Omega.{arith}
-use native.Mathlib.Nat.{le_trans}
 use lib.ListN.{length, take}
 use borrow.Author.Tests.{eq-eqb, ne_eqb}
 use Rattle.rules.specs.Maps.{between}
@@ -21,15 +20,14 @@ use Rattle.unit.specs.declared.Arrived.{Arrived}
 use Rattle.unit.specs.declared.Taken.{Taken}
 use Rattle.unit.specs.View.{view, meant, of_sent, of_arrived, of_handed, of_taken}
 use Rattle.unit.specs.CallContracts.{Sends, Arrives, Asks, Takes}
-use Rattle.script.specs.Items.{Command, sends, arrives, requests, takes, unreadable}
+use Rattle.script.specs.Items.{Command, sends, arrives, requests, takes}
 use Rattle.script.specs.Desk.{answers, took, lent, act}
-use Rattle.script.specs.Print.{reply_line}
-use Rattle.script.specs.Written.{Wrote}
 use Rattle.script.proofs.HeldLaws.{asks-past}
 use Rattle.bench.specs.declared.desk.Desk.{Desk}
 use Rattle.bench.specs.Desk.{unit_at, units_of, frame_in, desk_of, Fits, with_unit}
-use Rattle.bench.specs.Commands.{Acted, as_script, ignored, after_send, after_arrival, after_request, after_take, acted_of, Named, Acts}
-use Rattle.bench.proofs.PrintLaws.{wrote-prints}
+use Rattle.bench.specs.declared.reply.Reply.{Reply}
+use Rattle.bench.specs.declared.reply.Reply.TheVariants.{Answers, Took}
+use Rattle.bench.specs.Commands.{Acted, reply_of, as_script, after_send, after_arrival, after_request, after_take, acted_of, Named, Acts}
 use Rattle.bench.proofs.LengthLaws.{sent-len, asked-len}
 use Rattle.bench.proofs.DeskLaws.{with-fits, unit-is, unit-set, unit_kept, length-frames, frame_at, kept-shows, kept-fits, kept_more}
 
@@ -48,23 +46,20 @@ pub record Did (d : Desk) (c : Command) (a : Acted) : Type 0 where
   pub fits : Fits a.desk
   pub more : a.desk.count ≤ d.count + 1
 
--- and its line was printed
-pub did-acts : {d : Desk} {c : Command} {a : Acted} {line : ℕ} {out : List ℕ} {e : Desk} {r : Option ℕ} {len : ℕ} {out' : List ℕ} → Did d c a → e ≡ a.desk
-    → length (reply_line line a.reply) ≤ 84 → 84 ≤ length out → Wrote out (reply_line line a.reply) r out' → r ≡ Some len → Acts d c line out e len out'
-did-acts {a} {line} x e short room w is =
-    let p = wrote-prints (le_trans short room) w is in
+pub did-acts : {d : Desk} {c : Command} {a : Acted} {e : Desk} {r : Reply} → Did d c a → e ≡ a.desk → r ≡ a.reply → Acts d c e r
+did-acts x e q =
     record {
       next = e ∙ ap (λ (b : Acted). b.desk) (sym x.is);
-      text = rw x.is p;
-      short = omega (arith, p.count);
+      reply = q ∙ ap (λ (b : Acted). b.reply) (sym x.is);
       means = rw x.is x.means;
       fits = rw e x.fits;
       more = rw e x.more;
     }
 
-pub ignored-did : (d : Desk) → Fits d → Did d unreadable (ignored d)
-unfolding acted_of
-ignored-did d f = record { is = refl; means = refl; fits = f; more = omega arith }
+reply-taken : (t : Bool) (j x a len : ℕ) (word : List ℕ) → reply_of (cond t (Took j x word len) (Answers a)) ≡ cond t (took j x (take len word)) (answers a)
+unfolding reply_of
+reply-taken true j x a len word = refl
+reply-taken false j x a len word = refl
 
 module _ (d : Desk) (u : ℕ) (N : Named d u) (long : length d.units ≡ 3) where
   abbrev x : Unit
@@ -81,6 +76,7 @@ module _ (d : Desk) (u : ℕ) (N : Named d u) (long : length d.units ≡ 3) wher
 
   arrived-acts : (f : ℕ) → 1 ≤ f → f ≤ d.count → (a : Arrived) → meant (of_arrived a) ≡ arrive (view x) (frame_in d.frames (f - 1))
       → as_script (after_arrival d u a) ≡ act (desk_of d) (arrives u f)
+  unfolding reply_of
   arrived-acts f low high a m =
       rw (
         exists,
@@ -95,12 +91,15 @@ module _ (d : Desk) (u : ℕ) (N : Named d u) (long : length d.units ≡ 3) wher
 
   taken-acts : (g : Given Taken) → meant (of_taken g.result g.output) ≡ rules.take (view x) (lent 48)
       → as_script (after_take d u g) ≡ act (desk_of d) (takes u)
-  taken-acts g m = rw (exists, there, ← m, unit-set d.units u N.low few long g.result.unit, append-nil)
+  taken-acts g m =
+      let t : Taken = g.result in
+      rw (reply-taken (eqb t.answer 0) t.src t.seq t.answer t.len g.output, exists, there, ← m, unit-set d.units u N.low few long t.unit, append-nil)
 
   module _ (room : d.count < 64) (frames-long : length d.frames ≡ 64) where
     sent-acts : (word : List ℕ) (g : Given Sent) → g.result.len ≤ 117
         → meant (of_sent g.result g.output) ≡ send (view x) word (lent 117)
         → as_script (after_send d u g) ≡ act (desk_of d) (sends u word)
+    unfolding reply_of
     sent-acts word g short m =
         let s : Sent = g.result in
         rw (
@@ -114,6 +113,7 @@ module _ (d : Desk) (u : ℕ) (N : Named d u) (long : length d.units ≡ 3) wher
     asked-acts : (k : ℕ) (g : Given Handed) → g.result.len ≤ 117
         → meant (of_handed x g.result g.output) ≡ make_request (view x) (min k 255) (lent 117)
         → as_script (after_request d g) ≡ act (desk_of d) (requests u k)
+    unfolding reply_of
     asked-acts k g short m =
         let h : Handed = g.result in
         rw (
@@ -177,9 +177,9 @@ module _ (d : Desk) (u : ℕ) (N : Named d u) (long : length d.units ≡ 3) wher
       }
 
   pub refused_did : (t : Taken) (word : List ℕ) → Takes x (lent 48) t word → (t.answer ≡ 0 → ⊥)
-      → Did d (takes u) (record { desk = with_unit d u t.unit; reply = answers t.answer })
+      → Did d (takes u) (record { desk = with_unit d u t.unit; reply = Answers t.answer })
   refused_did t word T h = rw (ne_eqb t.answer 0 h) at (taken-did t word T)
 
   pub took-did : (t : Taken) (word : List ℕ) → Takes x (lent 48) t word → t.answer ≡ 0
-      → Did d (takes u) (record { desk = with_unit d u t.unit; reply = took t.src t.seq (take t.len word) })
+      → Did d (takes u) (record { desk = with_unit d u t.unit; reply = Took t.src t.seq word t.len })
   took-did t word T h = rw (eq-eqb t.answer 0 h) at (taken-did t word T)

@@ -57,7 +57,8 @@ module _ (frames : List Frame) where
   frame_at zero i h = absurd (omega arith)
   frame_at (suc m) i h = go (lt? i m) (frame_at m i)
     where
-      go : {t : Bool} → Lt? i m t → (i < m → get_or (frames_in frames m) i [] ≡ frame_in frames i) → get_or (frames_in frames m ++ (frame_in frames m ∷ [])) i [] ≡ frame_in frames i
+      go : {t : Bool} → Lt? i m t → (i < m → get_or (frames_in frames m) i [] ≡ frame_in frames i)
+          → get_or (frames_in frames m ++ (frame_in frames m ∷ [])) i [] ≡ frame_in frames i
       go (lt x) ih = get_or-append (frames_in frames m) (frame_in frames m ∷ []) [] i (omega (arith, length-frames m)) ∙ ih x
       go (ge x) ih =
           let e : m ≡ i = omega arith in

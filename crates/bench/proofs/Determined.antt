@@ -7,18 +7,19 @@ use Rattle.script.specs.Reader.{Read}
 use Rattle.bench.specs.declared.desk.Desk.{Desk}
 use Rattle.bench.specs.declared.reading.Stage.{Stage}
 use Rattle.bench.specs.declared.reading.Bench.{Bench}
-use Rattle.bench.specs.Prints.{Prints}
+use Rattle.bench.specs.declared.reply.Reply.{Reply}
+use Rattle.bench.specs.Prints.{Prints, PrintsLine}
 use Rattle.bench.specs.Commands.{Acts}
 use Rattle.bench.specs.Reading.{Said, Stepped, Steps, Reads, Starts, Ends}
 
 prints-determined : {text out after other : List ℕ} {m k : ℕ} → Prints text out m after → Prints text out k other → (m ≡ k) × (after ≡ other)
 prints-determined a b = (a.count ∙ sym b.count, a.bytes ∙ sym b.bytes)
 
-pub act-determined : {d : Desk} {c : Command} {line : ℕ} {out after other : List ℕ} {e f : Desk} {m k : ℕ}
-    → Acts d c line out e m after → Acts d c line out f k other → (e ≡ f) × (m ≡ k) × (after ≡ other)
-act-determined a b =
-    let printed = prints-determined a.text b.text in
-    (a.next ∙ sym b.next, printed.0, printed.1)
+pub act-determined : {d : Desk} {c : Command} {e f : Desk} {r q : Reply} → Acts d c e r → Acts d c f q → (e ≡ f) × (r ≡ q)
+act-determined a b = (a.next ∙ sym b.next, a.reply ∙ sym b.reply)
+
+pub print-determined : {text out after other : List ℕ} {m k : ℕ} → PrintsLine text out m after → PrintsLine text out k other → (m ≡ k) × (after ≡ other)
+print-determined a b = prints-determined a.prints b.prints
 
 pub step-determined : {s : Stepped} {out after other : List ℕ} {r q : Stage × ℕ} → Steps s out r after → Steps s out q other → (r ≡ q) × (after ≡ other)
 step-determined a b =

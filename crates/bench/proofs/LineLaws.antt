@@ -24,8 +24,10 @@ use Rattle.bench.specs.declared.reading.Stage.{Stage}
 use Rattle.bench.specs.declared.reading.Stage.TheVariants.{First, Later, Over}
 use Rattle.bench.specs.declared.reading.Bench.{Bench}
 use Rattle.bench.specs.Desk.{started_desk}
-use Rattle.bench.specs.Prints.{Prints}
-use Rattle.bench.specs.Commands.{Acts}
+use Rattle.script.specs.Print.{reply_line}
+use Rattle.bench.specs.declared.reply.Reply.{Reply}
+use Rattle.bench.specs.Prints.{Prints, PrintsLine}
+use Rattle.bench.specs.Commands.{reply_of, Acts}
 use Rattle.bench.specs.Reading.{stage_of, reader_of, FitsLine, begins_with, command_of, stage_said, line_said, stage_ends, end_said, Steps, Moves, Starts, Reads, Ends}
 use Rattle.bench.proofs.PrintLaws.{wrote-prints, no-group-short, group-short}
 use Rattle.bench.proofs.StartLaws.{started-fits}
@@ -86,15 +88,16 @@ module _ (l : Collector) {out : List ℕ} where
   unfolding stage_said
   over_ended = record { steps = record { next = refl; text = prints-none out; short = omega arith; ready = tt }; means = over-means l }
 
-  module _ (d : Desk) (k : ℕ) (R : FitsLine d k) {e : Desk} {len : ℕ} {out' : List ℕ} (a : Acts d (command_of (begun_of l)) k out e len out') where
+  module _ (d : Desk) (k : ℕ) (R : FitsLine d k) {e : Desk} {p : Reply} {len : ℕ} {out' : List ℕ}
+      (a : Acts d (command_of (begun_of l)) e p) (w : PrintsLine (reply_line k (reply_of p)) out len out') where
     pub later-ended : k < 65 → Ended (Later d k) l out (Later e (k + 1), len) out'
     unfolding stage_said
     later-ended h =
         record {
           steps = record {
             next = rw (lt-ltb k 65 h, a.next);
-            text = a.text;
-            short = a.short;
+            text = rw a.reply at w.prints;
+            short = w.short;
             ready = record { desk = a.fits; some = omega (arith, R.some); most = omega arith; frames = omega (arith, a.more, R.frames, R.some) };
           };
           means = later-means d k R.desk l a.means;
@@ -103,7 +106,10 @@ module _ (l : Collector) {out : List ℕ} where
     pub last-ended : 65 ≤ k → Ended (Later d k) l out (Over, len) out'
     unfolding stage_said
     last-ended h =
-        record { steps = record { next = rw (le-ltb k 65 h); text = a.text; short = a.short; ready = tt }; means = later-means d k R.desk l a.means }
+        record {
+          steps = record { next = rw (le-ltb k 65 h); text = rw a.reply at w.prints; short = w.short; ready = tt };
+          means = later-means d k R.desk l a.means;
+        }
 
 pub line_reads : (b : Bench) {out out' : List ℕ} {c : Collector} {r : Stage × ℕ} → c ≡ emptied → Ended b.stage b.line out r out'
     → Reads (line_said b) (read_line (reader_of b)) 84 out (record { line = c; stage = r.0 }) r.1 out'

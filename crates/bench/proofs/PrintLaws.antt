@@ -4,6 +4,7 @@ use mathlib.Core.Path.{◌≡◌, sym, ◌∙◌}
 use Rattle.std.specs.Prelude.{Option, Some, IsSome}
 use Prim.Native.Nat.{ℕ, ◌<◌, ◌≤◌}
 use native.Mathlib.Omega.{arith}
+use native.Mathlib.Nat.{le_trans}
 use lib.ListN.{length, take, length-take}
 use borrow.Author.Tests.{le-leb}
 use Rattle.script.specs.Desk.{unknown, answers, took}
@@ -11,7 +12,7 @@ use Rattle.script.specs.Print.{text, decimal, group_line, no_group_line, reply_l
 use Rattle.script.specs.Written.{Wrote}
 use Rattle.script.proofs.PrintLaws.{length-decimal}
 use Rattle.script.proofs.WrittenLaws.{length-joined, length-joined-last, length_taken}
-use Rattle.bench.specs.Prints.{Prints}
+use Rattle.bench.specs.Prints.{Prints, PrintsLine}
 
 -- where there was room, the whole text was written
 pub wrote-some : {out text after : List ℕ} {r : Option ℕ} → length text ≤ length out → Wrote out text r after → IsSome r
@@ -64,3 +65,10 @@ group-short n w h i =
 pub no-group-short : length no_group_line ≤ 84
 unfolding no_group_line
 no-group-short = omega arith
+
+-- a line was printed
+pub line-printed : {out text after : List ℕ} {r : Option ℕ} {len : ℕ} → length text ≤ 84 → 84 ≤ length out → Wrote out text r after → r ≡ Some len
+    → PrintsLine text out len after
+line-printed short room w is =
+    let p = wrote-prints (le_trans short room) w is in
+    record { prints = p; short = omega (arith, p.count, short) }

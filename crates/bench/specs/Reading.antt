@@ -14,7 +14,7 @@ use Rattle.bench.specs.declared.reading.Stage.{Stage}
 use Rattle.bench.specs.declared.reading.Stage.TheVariants.{First, Later, Over}
 use Rattle.bench.specs.declared.reading.Bench.{Bench}
 use Rattle.bench.specs.Desk.{desk_of, Fits, started_desk}
-use Rattle.bench.specs.Commands.{Acted, acted_of}
+use Rattle.bench.specs.Commands.{Acted, reply_of, acted_of}
 use Rattle.bench.specs.Prints.{longest, Prints}
 
 -- ---- what it shows
@@ -59,7 +59,7 @@ command_of l = said (shown (command_in l)) l.bytes
 
 -- line k is the last that is read, or the next one is to come
 abbrev pub after_line : ℕ → Acted → Stepped
-after_line k a = record { next = cond (ltb k 65) (Later a.desk (k + 1)) Over; text = reply_line k a.reply }
+after_line k a = record { next = cond (ltb k 65) (Later a.desk (k + 1)) Over; text = reply_line k (reply_of a.reply) }
 
 unfoldable pub stage_said : Stage → Collector → Stepped
 stage_said First l = begins_with (group_in (shown (command_in (begun_of l))))

@@ -1,17 +1,14 @@
-// What each command does with the group, and the line that it prints.
-ghost use Rattle.std.specs.Prelude.{◌≡◌, ◌-◌, ◌≤◌, min, length, drop};
+// What each command does with the group, and what it answers.
+ghost use Rattle.std.specs.Prelude.{◌≡◌, ◌-◌, min, length, drop};
 ghost use Rattle.rules.specs.Maps.{between};
-ghost use Rattle.script.specs.Items.{sends, arrives, requests, takes, unreadable};
+ghost use Rattle.script.specs.Items.{sends, arrives, requests, takes};
 ghost use Rattle.script.specs.Shown.{said};
-ghost use Rattle.bench.specs.Desk.{Fits};
 ghost use Rattle.bench.specs.Commands.{Named, CanWrite, CanHear, CanAct, names_known, Acts};
 
 use crate::desk::{Desk, Frame};
+use crate::reply::Reply;
 use script::line::Line;
-use script::print;
 use unit::Unit;
-
-// Each command changes the group, and answers how many bytes it printed.
 
 // x is from 1 to most.
 fn counted(x: u32, most: usize) -> bool
@@ -47,17 +44,9 @@ fn last(text: &[u8], len: usize) -> &[u8]
     &text[text.len().saturating_sub(len)..]
 }
 
-// A command that does nothing.
-fn unknown(d: &mut Desk, line: u32, out: &mut [u8]) -> usize
-    requires { Fits d.old × (84 ≤ length out.old) }
-    ensures { Acts d.old unreadable line out.old d.new result out.new }
-{
-    print::unknown_line(out, line).unwrap()
-}
-
-fn send(d: &mut Desk, line: u32, u: u32, word: &[u8], out: &mut [u8]) -> usize
-    requires { CanWrite d.old u × (84 ≤ length out.old) }
-    ensures { Acts d.old (sends u word.now) line out.old d.new result out.new }
+fn send(d: &mut Desk, u: u32, word: &[u8]) -> Reply
+    requires { CanWrite d.old u }
+    ensures { Acts d.old (sends u word.now) d.new result }
 {
     let i = u as usize - 1;
     let x = d.units[i];
@@ -66,12 +55,12 @@ fn send(d: &mut Desk, line: u32, u: u32, word: &[u8], out: &mut [u8]) -> usize
     let y = s.unit;
     d.units[i] = y;
     d.keep(s.answer, Frame { bytes, len: s.len });
-    print::answer_line(out, line, s.answer).unwrap()
+    Reply::Answers(s.answer)
 }
 
-fn arrive(d: &mut Desk, line: u32, u: u32, f: u32, out: &mut [u8]) -> usize
-    requires { CanHear d.old u f × (84 ≤ length out.old) }
-    ensures { Acts d.old (arrives u f) line out.old d.new result out.new }
+fn arrive(d: &mut Desk, u: u32, f: u32) -> Reply
+    requires { CanHear d.old u f }
+    ensures { Acts d.old (arrives u f) d.new result }
 {
     let i = u as usize - 1;
     let x = d.units[i];
@@ -79,24 +68,24 @@ fn arrive(d: &mut Desk, line: u32, u: u32, f: u32, out: &mut [u8]) -> usize
     let a = x.arrive(&frame.bytes[..frame.len]);
     let y = a.unit;
     d.units[i] = y;
-    print::answer_line(out, line, a.answer).unwrap()
+    Reply::Answers(a.answer)
 }
 
-fn request(d: &mut Desk, line: u32, u: u32, k: u32, out: &mut [u8]) -> usize
-    requires { CanWrite d.old u × (84 ≤ length out.old) }
-    ensures { Acts d.old (requests u k) line out.old d.new result out.new }
+fn request(d: &mut Desk, u: u32, k: u32) -> Reply
+    requires { CanWrite d.old u }
+    ensures { Acts d.old (requests u k) d.new result }
 {
     let i = u as usize - 1;
     let x = d.units[i];
     let mut bytes = [0u8; Unit::MOST_FRAME];
     let h = x.request(number_of(k), &mut bytes);
     d.keep(h.answer, Frame { bytes, len: h.len });
-    print::answer_line(out, line, h.answer).unwrap()
+    Reply::Answers(h.answer)
 }
 
-fn take(d: &mut Desk, line: u32, u: u32, out: &mut [u8]) -> usize
-    requires { Named d.old u × (84 ≤ length out.old) }
-    ensures { Acts d.old (takes u) line out.old d.new result out.new }
+fn take(d: &mut Desk, u: u32) -> Reply
+    requires { Named d.old u }
+    ensures { Acts d.old (takes u) d.new result }
 {
     let i = u as usize - 1;
     let x = d.units[i];
@@ -105,27 +94,32 @@ fn take(d: &mut Desk, line: u32, u: u32, out: &mut [u8]) -> usize
     let y = t.unit;
     d.units[i] = y;
     if t.answer != 0 {
-        return print::answer_line(out, line, t.answer).unwrap();
+        return Reply::Answers(t.answer);
     }
-    print::taken_line(out, line, t.src as u32, t.seq, &word[..t.len]).unwrap()
+    Reply::Took {
+        sender: t.src,
+        number: t.seq,
+        word,
+        len: t.len,
+    }
 }
 
 // The command that a line shows; `text` is the line itself.
-pub fn act(d: &mut Desk, line: u32, shown: Option<Line>, text: &[u8], out: &mut [u8]) -> usize
-    requires { CanAct d.old × (84 ≤ length out.old) }
-    ensures { Acts d.old (said shown text.now) line out.old d.new result out.new }
+pub fn act(d: &mut Desk, shown: Option<Line>, text: &[u8]) -> Reply
+    requires { CanAct d.old }
+    ensures { Acts d.old (said shown text.now) d.new result }
 {
     let Some(shown) = shown else {
-        return unknown(d, line, out);
+        return Reply::Unknown;
     };
     if !names(d.n, d.count, shown) {
-        return unknown(d, line, out);
+        return Reply::Unknown;
     }
     match shown {
-        Line::Send { unit, len } => send(d, line, unit, last(text, len), out),
-        Line::Arrive { unit, frame } => arrive(d, line, unit, frame, out),
-        Line::Request { unit, other } => request(d, line, unit, other, out),
-        Line::Take { unit } => take(d, line, unit, out),
-        Line::Group(_) => unknown(d, line, out),
+        Line::Send { unit, len } => send(d, unit, last(text, len)),
+        Line::Arrive { unit, frame } => arrive(d, unit, frame),
+        Line::Request { unit, other } => request(d, unit, other),
+        Line::Take { unit } => take(d, unit),
+        Line::Group(_) => Reply::Unknown,
     }
 }

@@ -6,6 +6,8 @@ use state::Opening;
 use unit::Unit;
 
 // A frame: the first len of these bytes.
+// Kept: `len ≤ 117` was tried as a ghost field; then `after_send` and `after_request` (Commands), which make a frame of
+// whatever length a call answers, can no longer be stated. It stands in `Fits`.
 #[derive(Clone, Copy)]
 pub struct Frame {
     pub bytes: [u8; Unit::MOST_FRAME],
@@ -13,6 +15,7 @@ pub struct Frame {
 }
 
 // Unit u is `units[u - 1]`, closed where u is more than n. Frame f is `frames[f - 1]`, and there are so many as `count`.
+// Kept: an ArrayVec of frames is no plainer. It is not Copy, and `Stage::step` takes the desk out of the bench by value.
 #[derive(Clone, Copy)]
 pub struct Desk {
     pub n: u8,

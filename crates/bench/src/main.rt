@@ -4,6 +4,7 @@
 mod commands;
 mod desk;
 mod reading;
+mod reply;
 
 ghost use Rattle.bench.specs.Reading.{Ready};
 ghost use Rattle.bench.specs.Runs.{Turns};

@@ -53,7 +53,7 @@ impl Stage {
             Stage::First => begin(line.read(), out),
             Stage::Later { mut desk, number } => {
                 let text = &line.bytes[..line.size()];
-                let len = commands::act(&mut desk, number, line.read(), text, out);
+                let len = commands::act(&mut desk, line.read(), text).print(number, out);
                 if number < Self::LAST {
                     let number = number + 1;
                     return (Stage::Later { desk, number }, len);
@@ -67,6 +67,8 @@ impl Stage {
 
 impl Bench {
     // The most bytes that a line prints.
+    // Kept: that there is room for them stands in five contracts. `feed` lends on what is left of its output, and that is a
+    // slice of any length: an array for each line would have to be copied there.
     pub const LONGEST: usize = 84;
 
     pub fn new() -> Self

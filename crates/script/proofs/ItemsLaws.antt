@@ -22,10 +22,6 @@ use Rattle.script.proofs.LinesLaws.{none≢some}
 
 -- ---- ranges
 
-pub below-between : (a b x : ℕ) → x < a → between a b x ≡ false
-unfolding between
-below-between a b x h = rw (lt-leb a x h)
-
 pub above-between : (a b x : ℕ) → b < x → between a b x ≡ false
 unfolding between
 above-between a b x h = rw (lt-leb x b h) (and-false (leb a x))
@@ -35,9 +31,6 @@ above-between a b x h = rw (lt-leb x b h) (and-false (leb a x))
 module _ (p : ℕ → Bool) (s : List ℕ) (i : ℕ) where
   pub all_drop : i < length s → all p (drop i s) ≡ p (get_or s i 0) && all p (drop (i + 1) s)
   all_drop h = rw (drop-cons s i 0 h, add-one i)
-
-  pub all-drop-end : length s ≤ i → all p (drop i s) ≡ true
-  all-drop-end h = rw (drop_of_length-le s h)
 
 -- ---- digits
 
@@ -166,4 +159,7 @@ is_printable-is b = refl
 -- what `all` answers
 pub is_word-from : (s : List ℕ) {r : Bool} → 0 < length s → r ≡ list_all is_printable s → r ≡ is_word s
 unfolding is_word
-is_word-from s h e = rw (lt-ltb 0 (length s) h) (e ∙ same_from_clauses (list_all is_printable) (all is_printable) (λ b t. is_printable b && t) refl (λ b l. refl) (λ b l. refl) s)
+is_word-from s h e =
+    let same : list_all is_printable s ≡ all is_printable s
+    = same_from_clauses (list_all is_printable) (all is_printable) (λ b t. is_printable b && t) refl (λ b l. refl) (λ b l. refl) s in
+    rw (lt-ltb 0 (length s) h) (e ∙ same)

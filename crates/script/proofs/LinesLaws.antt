@@ -68,7 +68,8 @@ length_before-position c = is_position_or_len (λ l. length (before c l)) (λ b.
     go b l false = omega arith
 
 module _ (s : List ℕ) (c : ℕ) where
-  place-cases : (P : Option ℕ → Type 0) → (length (before c s) < length s → P (Some (length (before c s)))) → (length (before c s) ≡ length s → P None) → P (place_of c s)
+  place-cases : (P : Option ℕ → Type 0) → (length (before c s) < length s → P (Some (length (before c s))))
+      → (length (before c s) ≡ length s → P None) → P (place_of c s)
   unfolding place_of
   place-cases P some none = go (lt? (length (before c s)) (length s))
     where

@@ -1,22 +1,19 @@
 -- Laws of writing to lent output: by single bytes, by texts one after the other, and whole.
 use mathlib.Core.List.{List, [], ◌∷◌, ◌++◌, append_assoc}
-use mathlib.Core.Path.{◌≡◌, sym, ap, ◌∙◌}
+use mathlib.Core.Path.{◌≡◌, ap, ◌∙◌}
 use Prim.Native.Nat.{ℕ, ◌+◌, ◌<◌, ◌≤◌}
 use native.Mathlib.Nat.{zero-add}
 use native.Mathlib.Omega.{arith}
-use lib.ListN.{length, set, length-append}
-use lib.Seq.{sets, append_snoc}
+use lib.ListN.{length, length-append}
+use lib.Seq.{append_snoc}
 use borrow.Author.Tests.{le-leb, lt-leb}
 use Rattle.std.specs.Prelude.{Some, None}
-use Rattle.rules.proofs.StoresLaws.{sets-++, set-sets, sets-written}
+use Rattle.rules.proofs.StoresLaws.{sets-++, sets-written}
 use Rattle.script.specs.Lines.{line_feed}
 use Rattle.script.specs.Items.{space, glued}
 use Rattle.script.specs.Desk.{took}
 use Rattle.script.specs.Print.{decimal, joined, reply_items}
 use Rattle.script.specs.Written.{Put, Wrote}
-
-sets-snoc : (a l : List ℕ) (i x : ℕ) → sets l i (a ++ (x ∷ [])) ≡ sets (set l (i + length a) x) i a
-sets-snoc a l i x = sym (sets-++ l i a (x ∷ [])) ∙ set-sets l i a (i + length a) x (omega arith)
 
 -- ---- texts
 

@@ -26,6 +26,8 @@ fn put_number(out: &mut [u8], at: usize, x: u32, end: u8) -> usize
 }
 
 // Puts all of s, and answers the next place.
+// Kept: output and place go together through three functions. A struct of the two holds a lent slice, and its methods would
+// say of `old` and `new` of a field what `Put` says of them here.
 fn put(out: &mut [u8], at: usize, s: &[u8]) -> usize
     requires { at + length s.now ≤ length out.old }
     ensures { Put out.old at s.now result out.new }

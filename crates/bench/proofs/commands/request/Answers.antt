@@ -1,14 +1,9 @@
 -- `commands::request` meets its contract: the frame that was written is the next one.
-use native.Mathlib.Nat.{le_trans}
-use mathlib.Core.Path.{◌≡◌}
+use mathlib.Core.Path.{◌≡◌, refl}
 use lib.ListN.{length}
 use borrow.Author.Rules.{rules}
 use Rattle.bench.proofs.ActLaws.{did-acts, asked-did}
-use Rattle.bench.proofs.PrintLaws.{wrote-some, answer-short}
 use Rattle.bench.proofs.commands.request.Goals as goal
-
-pub unwrap-requires : goal.unwrap-requires
-unwrap-requires c = wrote-some (le_trans (answer-short c.args.line c.request-h.result.answer (search rules) (search rules)) c.requires.1) c.answer_line.ensures
 
 pub returns : goal.returns
 returns c =
@@ -17,6 +12,4 @@ returns c =
     let units : length d.units ≡ 3 = search rules in
     let frames : length d.frames ≡ 64 = search rules in
     let A = rw c.number_of.ensures at h.ensures in
-    did-acts {line = c.args.line}
-    (asked-did d c.args.u c.requires.0.unit units c.requires.0.room frames c.args.k h.result _ A)
-    c.keep.ensures (answer-short c.args.line h.result.answer (search rules) (search rules)) c.requires.1 c.answer_line.ensures c.unwrap.ensures
+    did-acts (asked-did d c.args.u c.requires.unit units c.requires.room frames c.args.k h.result _ A) c.keep.ensures refl

@@ -10,4 +10,6 @@ use Rattle.script.proofs.bytes.find.Goals as goal
 pub returns : goal.returns
 returns c =
     let a = c.args in
-    found_is _ _ _ (position_from_yields_List (λ b. eqb b a.c) _ _ c.position.result c.position.ensures.ran (YieldsList-from_slice a.s.now cc) (λ x b q k. search (rules, tests)))
+    let p = c.position in
+    found_is _ _ _
+    (position_from_yields_List (λ b. eqb b a.c) _ _ p.result p.ensures.ran (YieldsList-from_slice a.s.now cc) (λ x b q k. search (rules, tests)))

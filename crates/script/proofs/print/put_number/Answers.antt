@@ -15,7 +15,8 @@ put-stop-requires c =
 pub put-requires : goal.put-requires
 put-requires c =
     let small : c.args.x < 2 ^ 64 = omega arith in
-    omega (arith, ap length (c.as_bytes.ensures.value ∙ c.format.ensures.text ∙ sym (decimal-std c.args.x small)), c.put-stop.ensures.place, c.put-stop.ensures.long)
+    let digits = c.as_bytes.ensures.value ∙ c.format.ensures.text ∙ sym (decimal-std c.args.x small) in
+    omega (arith, ap length digits, c.put-stop.ensures.place, c.put-stop.ensures.long)
 
 pub returns : goal.returns
 returns c =

@@ -3,6 +3,7 @@
 #![tactic(auto)]
 
 mod confirm;
+mod held;
 mod preack;
 
 ghost use Rattle.std.specs.Prelude.{◌≡◌, [], ◌∷◌, ◌++◌, length, drop, ◌-◌};
@@ -10,6 +11,7 @@ ghost use Rattle.rules.specs.Maps.{listed};
 ghost use Rattle.lists.specs.Order.{is_of, only, total, entry, waitings, takens, slots_of, free_of, with_last, without_first};
 ghost use Rattle.lists.specs.Settle.{settled_of};
 
+use held::Held;
 use preack::Said;
 use tables;
 
@@ -135,6 +137,6 @@ pub fn settled<'a>(o: Order, al: &'a [u32], seqs: &'a [u32], acks: &'a [u32], n:
         return o;
     }
     let said = Said { seqs, acks };
-    let p = said.all(o, al, n);
+    let p = said.all(Held { order: o }, al, n);
     confirm::all(p, seqs, n)
 }

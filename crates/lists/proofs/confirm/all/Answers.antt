@@ -7,7 +7,7 @@ use Rattle.lists.proofs.ConfirmLaws.{confirmed-more, confirmed-stop}
 use Rattle.lists.proofs.confirm.all.Goals as goal
 
 pub loop-o-init : goal.loop-o-init
-loop-o-init c = (c.requires, refl)
+loop-o-init c = (c.args.first.room, refl)
 
 pub returns-else-ready : goal.returns-else-ready
 returns-else-ready c =

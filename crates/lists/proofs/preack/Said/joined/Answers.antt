@@ -7,4 +7,4 @@ use Rattle.lists.proofs.preack.Said.joined.Goals as goal
 pub moved-requires : goal.moved-requires
 moved-requires c =
     let s = c.args in
-    omega (arith, before-le s.o s.self.now.seqs.now s.self.now.acks.now (entry s.o s.q))
+    omega (arith, before-le s.first.order s.self.now.seqs.now s.self.now.acks.now (entry s.first.order s.q))

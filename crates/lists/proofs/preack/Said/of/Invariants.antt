@@ -12,4 +12,4 @@ abbrev pub Here : ℕ → ℕ → List ℕ → List ℕ → ℕ → Order → Or
 Here j low seqs acks end first r q = Turn end q r × (acked_at (end - q) q r j low seqs acks ≡ acked_from first j low seqs acks)
 
 abbrev pub invariant-loop-q : goal.invariant-loop-q
-invariant-loop-q l = Here l.j l.low l.self.seqs.now l.self.acks.now l.end l.initial.o l.o l.q
+invariant-loop-q l = Here l.j l.low l.self.seqs.now l.self.acks.now l.end l.initial.o.order l.o.order l.q

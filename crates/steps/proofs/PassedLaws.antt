@@ -26,15 +26,6 @@ from-unit c h e =
     let unit : between 1 c.n h.src ≡ true = and_right (eqb h.n c.n) (between 1 c.n h.src) e in
     record { first = between-low 1 c.n h.src unit; unit = between-high 1 c.n h.src unit }
 
-pub asks-some : (c : Core) (f : Request) (x : ⊤) → ◌≡◌ {A = Answered ⊤} (judged (request_checks c f) tt) (Ok x) → 1 ≤ f.lseq
-unfolding asks_wrongly
-asks-some c f x e =
-    let wrong : asks_wrongly c f ≡ false = (done_passes tt (request_checks c f) x e).1.1.1.1.0 in
-    omega (arith, leb-false f.lseq (at f.head.ack c.me) (search (or_left, or_right)))
-
-pub short-data : (c : Core) (len room : ℕ) (x : ⊤) → ◌≡◌ {A = Answered ⊤} (judged (send_checks c len room) tt) (Ok x) → len ≤ 48
-short-data c len room x e = ltb-false 48 len (done_passes tt (send_checks c len room) x e).0
-
 -- a frame's data are short
 abbrev short : Option Frame → Type 0
 short None = ⊤

@@ -3,9 +3,9 @@ use Rattle.std.specs.Prelude.{Bool, true, false, cond, List, [], ◌∷◌, ◌�
 use Rattle.std.specs.Result.{IsErrAnd}
 use native.Mathlib.Omega.{arith}
 use mathlib.Core.Bool.{true≢false}
-use mathlib.Core.Path.{refl, sym, ap, ◌∙◌}
+use mathlib.Core.Path.{refl, sym, ap, subst, ◌∙◌}
 use Rattle.rules.specs.Calls.{Check, decide}
-use Rattle.rules.proofs.CallsLaws.{Passed}
+use Rattle.rules.proofs.CallsLaws.{Passed, Refused, now, later}
 use Rattle.rules.proofs.AlikeLaws.{Alike, decide-alike}
 use Rattle.rules.proofs.DecideLaws.{decide-map}
 use Rattle.answers.specs.declared.Refusal.{Refusal}
@@ -107,17 +107,19 @@ module _ {B : Type 0} (refused : ℕ → B) (done : B) where
       go true f z = ap refused (sym n.0 ∙ ap number_of (same_error z))
       go false f z = f z
 
-err_not_ok : {e : Refusal} {x : ⊤} → ◌≡◌ {A = Answered ⊤} (Err e) (Ok x) → ⊥
+pub err_not_ok : {A : Type 0} {e : Refusal} {x : A} → ◌≡◌ {A = Answered A} (Err e) (Ok x) → ⊥
 err_not_ok h = true≢false (let z : true ≡ false = search in z)
 
-pub ok_passes : (l : List Check) (x : ⊤) → ◌≡◌ {A = Answered ⊤} (judged l tt) (Ok x) → Passed l
-ok_passes [] x h = tt
-ok_passes (c ∷ l) x h = go c.holds refl (ok_passes l x) h
+pub done_passes : {A : Type 0} (done : A) (l : List Check) (x : A) → judged l done ≡ Ok x → Passed l
+done_passes done [] x h = tt
+done_passes done (c ∷ l) x h = go c.holds refl (done_passes done l x) h
   where
-    go : (t : Bool) → c.holds ≡ t → (◌≡◌ {A = Answered ⊤} (judged l tt) (Ok x) → Passed l)
-        → ◌≡◌ {A = Answered ⊤} (cond t (Err (refusal_of c.answer)) (judged l tt)) (Ok x) → (c.holds ≡ false) × Passed l
+    go : (t : Bool) → c.holds ≡ t → (judged l done ≡ Ok x → Passed l) → cond t (Err (refusal_of c.answer)) (judged l done) ≡ Ok x → (c.holds ≡ false) × Passed l
     go true e f z = absurd (err_not_ok z)
     go false e f z = (e, f z)
+
+pub same_ok : {A : Type 0} {x y : A} → ◌≡◌ {A = Answered A} (Ok x) (Ok y) → x ≡ y
+same_ok h = search
 
 -- a call judged by these checks
 module _ {A : Type 0} (done : A) (l : List Check) where
@@ -127,3 +129,8 @@ module _ {A : Type 0} (done : A) (l : List Check) where
   pub judged-err : Numbered l → (e : Refusal) → ◌≡◌ {A = Answered ⊤} (judged l tt) (Err e) → (q : Answered A) → IsErrAnd q (λ d. d ≡ e) → q ≡ judged l done
   judged-err n e h q p =
       passed_on q e p ∙ ap (λ (d : Refusal). Err d) (sym (refusal-number e)) ∙ sym (err-decides (λ a. Err (refusal_of a)) (Ok done) l n e h)
+
+pub refused-numbered : (a : ℕ) (l : List Check) → Numbered l → Refused a l → number_of (refusal_of a) ≡ a
+refused-numbered a [] n r = elim r [ ]
+refused-numbered a (c ∷ l) n (now h e) = subst (λ (k : ℕ). number_of (refusal_of k) ≡ k) e n.0
+refused-numbered a (c ∷ l) n (later h r) = refused-numbered a l n.1 r

@@ -1,10 +1,10 @@
 -- What a command does with the group as the code holds it is what it does on the script's desk.
-use mathlib.Core.Bool.{Bool, true}
+use mathlib.Core.Bool.{Bool, true, false, cond}
+use lib.Dec.{eqb}
 use mathlib.Core.List.{List, append-nil}
 use mathlib.Core.Path.{◌≡◌, refl, sym, ap, ◌∙◌}
 use Prim.Native.Nat.{ℕ, ◌+◌, ◌-◌, ◌<◌, ◌≤◌, min}
 use native.Mathlib.Omega.{arith}
-use native.Mathlib.Nat.{le_trans}
 use lib.ListN.{length, take}
 use borrow.Author.Tests.{eq-eqb, ne_eqb}
 use Rattle.rules.specs.Maps.{between}
@@ -20,16 +20,14 @@ use Rattle.unit.specs.declared.Arrived.{Arrived}
 use Rattle.unit.specs.declared.Taken.{Taken}
 use Rattle.unit.specs.View.{view, meant, of_sent, of_arrived, of_handed, of_taken}
 use Rattle.unit.specs.CallContracts.{Sends, Arrives, Asks, Takes}
-use Rattle.script.specs.Items.{Command, sends, arrives, requests, takes, unreadable}
+use Rattle.script.specs.Items.{Command, sends, arrives, requests, takes}
 use Rattle.script.specs.Desk.{answers, took, lent, act}
-use Rattle.script.specs.Print.{reply_line}
-use Rattle.script.specs.Written.{Wrote}
 use Rattle.script.proofs.HeldLaws.{asks-past}
 use Rattle.bench.specs.declared.desk.Desk.{Desk}
-use Rattle.bench.specs.declared.commands.Done.{Done}
 use Rattle.bench.specs.Desk.{unit_at, units_of, frame_in, desk_of, Fits, with_unit}
-use Rattle.bench.specs.Commands.{Acted, as_script, ignored, after_send, after_arrival, after_request, after_take, acted_of, Named, Acts}
-use Rattle.bench.proofs.PrintLaws.{wrote-prints}
+use Rattle.bench.specs.declared.reply.Reply.{Reply}
+use Rattle.bench.specs.declared.reply.Reply.TheVariants.{Answers, Took}
+use Rattle.bench.specs.Commands.{Acted, reply_of, as_script, after_send, after_arrival, after_request, after_take, acted_of, Named, Acts}
 use Rattle.bench.proofs.LengthLaws.{sent-len, asked-len}
 use Rattle.bench.proofs.DeskLaws.{with-fits, unit-is, unit-set, unit_kept, length-frames, frame_at, kept-shows, kept-fits, kept_more}
 
@@ -48,23 +46,20 @@ pub record Did (d : Desk) (c : Command) (a : Acted) : Type 0 where
   pub fits : Fits a.desk
   pub more : a.desk.count ≤ d.count + 1
 
--- and its line was printed
-pub did-acts : {d : Desk} {c : Command} {a : Acted} {line : ℕ} {out : List ℕ} {r : Done} {out' : List ℕ} → Did d c a → r.desk ≡ a.desk
-    → length (reply_line line a.reply) ≤ 84 → 84 ≤ length out → Wrote out (reply_line line a.reply) r.len out' → Acts d c line out r out'
-did-acts {a} {line} x e short room w =
-    let p = wrote-prints (le_trans short room) w in
+pub did-acts : {d : Desk} {c : Command} {a : Acted} {e : Desk} {r : Reply} → Did d c a → e ≡ a.desk → r ≡ a.reply → Acts d c e r
+did-acts x e q =
     record {
       next = e ∙ ap (λ (b : Acted). b.desk) (sym x.is);
-      text = rw x.is p;
-      short = omega (arith, p.count);
+      reply = q ∙ ap (λ (b : Acted). b.reply) (sym x.is);
       means = rw x.is x.means;
       fits = rw e x.fits;
       more = rw e x.more;
     }
 
-pub ignored-did : (d : Desk) → Fits d → Did d unreadable (ignored d)
-unfolding acted_of
-ignored-did d f = record { is = refl; means = refl; fits = f; more = omega arith }
+reply-taken : (t : Bool) (j x a len : ℕ) (word : List ℕ) → reply_of (cond t (Took j x word len) (Answers a)) ≡ cond t (took j x (take len word)) (answers a)
+unfolding reply_of
+reply-taken true j x a len word = refl
+reply-taken false j x a len word = refl
 
 module _ (d : Desk) (u : ℕ) (N : Named d u) (long : length d.units ≡ 3) where
   abbrev x : Unit
@@ -79,14 +74,15 @@ module _ (d : Desk) (u : ℕ) (N : Named d u) (long : length d.units ≡ 3) wher
   there : units_of d.units u ≡ view x
   there = unit-is d.units u N.low few
 
-  arrived-acts : (f : ℕ) → 1 ≤ f → f ≤ d.count → (a : Arrived) → meant (of_arrived a) ≡ arrive (view x) (frame_in d.store d.lens (f - 1))
+  arrived-acts : (f : ℕ) → 1 ≤ f → f ≤ d.count → (a : Arrived) → meant (of_arrived a) ≡ arrive (view x) (frame_in d.frames (f - 1))
       → as_script (after_arrival d u a) ≡ act (desk_of d) (arrives u f)
+  unfolding reply_of
   arrived-acts f low high a m =
       rw (
         exists,
-        length-frames d.store d.lens d.count,
+        length-frames d.frames d.count,
         is-between 1 d.count f low high,
-        frame_at d.store d.lens d.count (f - 1) (omega arith),
+        frame_at d.frames d.count (f - 1) (omega arith),
         there,
         ← m,
         unit-set d.units u N.low few long a.unit,
@@ -95,33 +91,37 @@ module _ (d : Desk) (u : ℕ) (N : Named d u) (long : length d.units ≡ 3) wher
 
   taken-acts : (g : Given Taken) → meant (of_taken g.result g.output) ≡ rules.take (view x) (lent 48)
       → as_script (after_take d u g) ≡ act (desk_of d) (takes u)
-  taken-acts g m = rw (exists, there, ← m, unit-set d.units u N.low few long g.result.unit, append-nil)
+  taken-acts g m =
+      let t : Taken = g.result in
+      rw (reply-taken (eqb t.answer 0) t.src t.seq t.answer t.len g.output, exists, there, ← m, unit-set d.units u N.low few long t.unit, append-nil)
 
-  module _ (room : d.count < 64) (store_long : length d.store ≡ 7488) (lens-long : length d.lens ≡ 64) where
-    sent-acts : (word : List ℕ) (g : Given Sent) → length g.output ≡ 117 → g.result.len ≤ 117
+  module _ (room : d.count < 64) (frames-long : length d.frames ≡ 64) where
+    sent-acts : (word : List ℕ) (g : Given Sent) → g.result.len ≤ 117
         → meant (of_sent g.result g.output) ≡ send (view x) word (lent 117)
         → as_script (after_send d u g) ≡ act (desk_of d) (sends u word)
-    sent-acts word g l-long short m =
+    unfolding reply_of
+    sent-acts word g short m =
         let s : Sent = g.result in
         rw (
           exists,
           there,
           ← m,
-          kept-shows (with_unit d u s.unit) (with-fits d u s.unit N.fits) room store_long lens-long g.output l-long s.len short s.answer,
+          kept-shows (with_unit d u s.unit) (with-fits d u s.unit N.fits) room frames-long (record { bytes = g.output; len = s.len }) short s.answer,
           unit-set d.units u N.low few long s.unit,
         )
 
-    asked-acts : (k : ℕ) (g : Given Handed) → length g.output ≡ 117 → g.result.len ≤ 117
+    asked-acts : (k : ℕ) (g : Given Handed) → g.result.len ≤ 117
         → meant (of_handed x g.result g.output) ≡ make_request (view x) (min k 255) (lent 117)
         → as_script (after_request d g) ≡ act (desk_of d) (requests u k)
-    asked-acts k g l-long short m =
+    unfolding reply_of
+    asked-acts k g short m =
         let h : Handed = g.result in
         rw (
           exists,
           there,
           ← asks-held (view x) k (lent 117),
           ← m,
-          kept-shows d N.fits room store_long lens-long g.output l-long h.len short h.answer,
+          kept-shows d N.fits room frames-long (record { bytes = g.output; len = h.len }) short h.answer,
           unit_kept d.units u N.low few long,
         )
 
@@ -131,9 +131,9 @@ module _ (d : Desk) (u : ℕ) (N : Named d u) (long : length d.units ≡ 3) wher
     sent-did word s frame l-long S =
         record {
           is = rw (exists, S.exact, S.bytes);
-          means = sent-acts word (record { result = s; output = frame }) l-long short S.means;
-          fits = kept-fits e (with-fits d u s.unit N.fits) room store_long lens-long frame l-long s.len short s.answer;
-          more = kept_more e (with-fits d u s.unit N.fits) room store_long lens-long frame l-long s.len short s.answer;
+          means = sent-acts word (record { result = s; output = frame }) short S.means;
+          fits = kept-fits e (with-fits d u s.unit N.fits) room frames-long (record { bytes = frame; len = s.len }) short s.answer;
+          more = kept_more e (with-fits d u s.unit N.fits) room frames-long (record { bytes = frame; len = s.len }) short s.answer;
         }
       where
         e : Desk
@@ -142,21 +142,21 @@ module _ (d : Desk) (u : ℕ) (N : Named d u) (long : length d.units ≡ 3) wher
         short : s.len ≤ 117
         short = rw S.exact (sent-len x word (lent 117) (sym (ap length S.bytes) ∙ l-long))
 
-    pub asked-did : (k : ℕ) (h : Handed) (frame : List ℕ) → length frame ≡ 117 → Asks x (min k 255) (lent 117) h frame
+    pub asked-did : (k : ℕ) (h : Handed) (frame : List ℕ) → Asks x (min k 255) (lent 117) h frame
         → Did d (requests u k) (after_request d (record { result = h; output = frame }))
     unfolding acted_of
-    asked-did k h frame l-long A =
+    asked-did k h frame A =
         record {
           is = rw (exists, A.exact, A.bytes);
-          means = asked-acts k (record { result = h; output = frame }) l-long short A.means;
-          fits = kept-fits d N.fits room store_long lens-long frame l-long h.len short h.answer;
-          more = kept_more d N.fits room store_long lens-long frame l-long h.len short h.answer;
+          means = asked-acts k (record { result = h; output = frame }) short A.means;
+          fits = kept-fits d N.fits room frames-long (record { bytes = frame; len = h.len }) short h.answer;
+          more = kept_more d N.fits room frames-long (record { bytes = frame; len = h.len }) short h.answer;
         }
       where
         short : h.len ≤ 117
         short = rw A.exact (asked-len x.core x.acks (min k 255) (lent 117))
 
-  pub arrived-did : (f : ℕ) → 1 ≤ f → f ≤ d.count → (a : Arrived) → Arrives x (frame_in d.store d.lens (f - 1)) a → Did d (arrives u f) (after_arrival d u a)
+  pub arrived-did : (f : ℕ) → 1 ≤ f → f ≤ d.count → (a : Arrived) → Arrives x (frame_in d.frames (f - 1)) a → Did d (arrives u f) (after_arrival d u a)
   unfolding acted_of
   arrived-did f low high a A =
       record {
@@ -177,9 +177,9 @@ module _ (d : Desk) (u : ℕ) (N : Named d u) (long : length d.units ≡ 3) wher
       }
 
   pub refused_did : (t : Taken) (word : List ℕ) → Takes x (lent 48) t word → (t.answer ≡ 0 → ⊥)
-      → Did d (takes u) (record { desk = with_unit d u t.unit; reply = answers t.answer })
+      → Did d (takes u) (record { desk = with_unit d u t.unit; reply = Answers t.answer })
   refused_did t word T h = rw (ne_eqb t.answer 0 h) at (taken-did t word T)
 
   pub took-did : (t : Taken) (word : List ℕ) → Takes x (lent 48) t word → t.answer ≡ 0
-      → Did d (takes u) (record { desk = with_unit d u t.unit; reply = took t.src t.seq (take t.len word) })
+      → Did d (takes u) (record { desk = with_unit d u t.unit; reply = Took t.src t.seq word t.len })
   took-did t word T h = rw (eq-eqb t.answer 0 h) at (taken-did t word T)

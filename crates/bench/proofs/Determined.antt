@@ -5,37 +5,32 @@ use Prim.Native.Nat.{ℕ}
 use Rattle.script.specs.Items.{Command}
 use Rattle.script.specs.Reader.{Read}
 use Rattle.bench.specs.declared.desk.Desk.{Desk}
-use Rattle.bench.specs.declared.commands.Done.{Done}
+use Rattle.bench.specs.declared.reading.Stage.{Stage}
 use Rattle.bench.specs.declared.reading.Bench.{Bench}
-use Rattle.bench.specs.declared.reading.Told.{Told}
-use Rattle.bench.specs.Prints.{Prints}
+use Rattle.bench.specs.declared.reply.Reply.{Reply}
+use Rattle.bench.specs.Prints.{Prints, PrintsLine}
 use Rattle.bench.specs.Commands.{Acts}
-use Rattle.bench.specs.Reading.{Said, Tells, Reads, Starts, Ends}
+use Rattle.bench.specs.Reading.{Said, Stepped, Steps, Reads, Starts, Ends}
 
 prints-determined : {text out after other : List ℕ} {m k : ℕ} → Prints text out m after → Prints text out k other → (m ≡ k) × (after ≡ other)
 prints-determined a b = (a.count ∙ sym b.count, a.bytes ∙ sym b.bytes)
 
-done-is : {r q : Done} → r.desk ≡ q.desk → r.len ≡ q.len → r ≡ q
-done-is d l = ap₂ (λ (d : Desk) (n : ℕ). record { desk = d; len = n }) d l
+pub act-determined : {d : Desk} {c : Command} {e f : Desk} {r q : Reply} → Acts d c e r → Acts d c f q → (e ≡ f) × (r ≡ q)
+act-determined a b = (a.next ∙ sym b.next, a.reply ∙ sym b.reply)
 
-told_is : {r q : Told} → r.bench ≡ q.bench → r.len ≡ q.len → r ≡ q
-told_is b l = ap₂ (λ (b : Bench) (n : ℕ). record { bench = b; len = n }) b l
+pub print-determined : {text out after other : List ℕ} {m k : ℕ} → PrintsLine text out m after → PrintsLine text out k other → (m ≡ k) × (after ≡ other)
+print-determined a b = prints-determined a.prints b.prints
 
-pub act-determined : {d : Desk} {c : Command} {line : ℕ} {out after other : List ℕ} {r q : Done}
-    → Acts d c line out r after → Acts d c line out q other → (r ≡ q) × (after ≡ other)
-act-determined a b =
+pub step-determined : {s : Stepped} {out after other : List ℕ} {r q : Stage × ℕ} → Steps s out r after → Steps s out q other → (r ≡ q) × (after ≡ other)
+step-determined a b =
     let printed = prints-determined a.text b.text in
-    (done-is (a.next ∙ sym b.next) printed.0, printed.1)
+    (ap₂ (λ (s : Stage) (n : ℕ). (s, n)) (a.next ∙ sym b.next) printed.0, printed.1)
 
-tells-determined : {s : Said} {most : ℕ} {out after other : List ℕ} {r q : Told}
-    → Tells s most out r after → Tells s most out q other → (r ≡ q) × (after ≡ other)
-tells-determined a b =
-    let printed = prints-determined a.text b.text in
-    (told_is (a.next ∙ sym b.next) printed.0, printed.1)
-
-pub feed-determined : {s : Said} {meant : Read} {most : ℕ} {out after other : List ℕ} {r q : Told}
-    → Reads s meant most out r after → Reads s meant most out q other → (r ≡ q) × (after ≡ other)
-feed-determined a b = tells-determined a.tells b.tells
+pub feed-determined : {s : Said} {meant : Read} {most : ℕ} {out after other : List ℕ} {e f : Bench} {m k : ℕ}
+    → Reads s meant most out e m after → Reads s meant most out f k other → (e ≡ f) × (m ≡ k) × (after ≡ other)
+feed-determined a b =
+    let printed = prints-determined a.tells.text b.tells.text in
+    (a.tells.next ∙ sym b.tells.next, printed.0, printed.1)
 
 pub new-determined : {r q : Bench} → Starts r → Starts q → r ≡ q
 new-determined a b = a.exact ∙ sym b.exact

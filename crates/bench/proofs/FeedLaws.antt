@@ -15,7 +15,6 @@ use Rattle.script.specs.Gathered.{begun_of, pushed}
 use Rattle.script.specs.Reader.{longer, Read, read_line, read_byte, read_part}
 use Rattle.script.proofs.CommandLaws.{take_rest}
 use Rattle.bench.specs.declared.reading.Bench.{Bench}
-use Rattle.bench.specs.declared.reading.Told.{Told}
 use Rattle.bench.specs.Prints.{Prints}
 use Rattle.bench.specs.Reading.{reader_of, Ready, Said, as_script, line_said, pushed_to, byte_said, part_said, Reads}
 
@@ -67,9 +66,6 @@ pub record Fed (b₀ : Bench) (part out₀ : List ℕ) (b : Bench) (len i : ℕ)
   pub means : and_read (record { next = reader_of b; text = text }) (drop i part) ≡ read_part (reader_of b₀) part
 
 module _ (b₀ : Bench) (part out₀ : List ℕ) where
-  pub fed-none : Ready b₀ → Fed b₀ part out₀ b₀ 0 0 out₀
-  fed-none r = record { text = []; printed = prints-none out₀; long = refl; within = omega arith; short = omega arith; ready = r; exact = refl; means = refl }
-
   module _ (b : Bench) (len i : ℕ) (out : List ℕ) (f : Fed b₀ part out₀ b len i out) where
     abbrev x : ℕ
     x = get_or part i 0
@@ -97,7 +93,7 @@ module _ (b₀ : Bench) (part out₀ : List ℕ) where
         ∙ f.means
 
     push-ready : Ready (pushed_to b x)
-    push-ready = record { desk = f.ready.desk; some = f.ready.some; most = f.ready.most; frames = f.ready.frames }
+    push-ready = f.ready
 
     -- there is room for a line
     pub room-left : i < length part → 84 * length part ≤ length out₀ → 84 ≤ length (mid_of len (length out - len) out)
@@ -140,10 +136,10 @@ module _ (b₀ : Bench) (part out₀ : List ℕ) where
       nothing-behind = drop_of_length-le (drop len out) {i = length out - len} (omega (arith, length-drop len out))
 
       -- its text goes to what is left of the output
-      pub fed-line : 84 * length part ≤ length out₀ → (r : Told) (after : List ℕ)
-          → Reads (line_said b) (read_line (reader_of b)) 84 (mid_of len (length out - len) out) r after
-          → Fed b₀ part out₀ r.bench (len + r.len) (i + 1) (put_mid len (length out - len) out after)
-      fed-line room r after t =
+      pub fed-line : 84 * length part ≤ length out₀ → (e : Bench) (m : ℕ) (after : List ℕ)
+          → Reads (line_said b) (read_line (reader_of b)) 84 (mid_of len (length out - len) out) e m after
+          → Fed b₀ part out₀ e (len + m) (i + 1) (put_mid len (length out - len) out after)
+      fed-line room e m after t =
           record {
             text = f.text ++ (line_said b).text;
             printed = rw (nothing-behind, append-nil) (prints-then f.printed (rw (take_rest len out) at t.tells.text));
@@ -155,7 +151,7 @@ module _ (b₀ : Bench) (part out₀ : List ℕ) where
             means = rw (t.tells.next, append_assoc) (read_next h (as_script (line_said b)) (line_read ∙ sym t.means));
           }
 
-    pub fed-all : length part ≤ i → Reads (part_said b₀ part) (read_part (reader_of b₀) part) (84 * length part) out₀ (record { bench = b; len = len }) out
+    pub fed-all : length part ≤ i → Reads (part_said b₀ part) (read_part (reader_of b₀) part) (84 * length part) out₀ b len out
     unfolding part_said
     fed-all h =
         record {

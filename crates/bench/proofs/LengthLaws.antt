@@ -10,17 +10,15 @@ use borrow.Author.Tests.{ltb-false}
 use Rattle.rules.specs.Message.{request, encode}
 use Rattle.rules.specs.Calls.{Check, written}
 use Rattle.rules.proofs.CallsLaws.{Passed, decide-cases}
-use Rattle.tables.specs.Rows.{part}
 use Rattle.state.specs.declared.Core.{Core}
 use Rattle.steps.specs.declared.Sending.{Sending}
 use Rattle.steps.specs.Sending.{sending_of}
 use Rattle.steps.specs.Means.{own_frame}
 use Rattle.handing.specs.declared.Handed.{Handed}
-use Rattle.handing.specs.declared.Taken as handing
-use Rattle.handing.specs.Handing.{Given, giving, asking_of, asking_checks, not_handed, handed, request_for, taking_of, taking_checks, not_taken, taken_at, oldest_place, length_at}
+use Rattle.handing.specs.Handing.{Given, giving, asking_of, asking_checks, not_handed, handed, request_for}
 use Rattle.unit.specs.declared.Unit.{Unit}
 use Rattle.unit.specs.declared.Sent.{Sent}
-use Rattle.unit.specs.Exact.{done_send, refused_send, sent_by, sent_of, taken_of}
+use Rattle.unit.specs.Exact.{done_send, refused_send, sent_by, sent_of}
 
 -- the output stays as long as it was
 pub sent-len : (u : Unit) (d out : List ℕ) → length (sent_of u d out).output ≡ length out → (sent_of u d out).result.len ≤ length out
@@ -49,11 +47,3 @@ unfolding asking_of
 asked-len c acks k out =
     given-len (λ (h : Handed). h.len) (asking_checks c acks k out) not_handed (handed 0 (33 + 4 * c.n)) (encode (request (request_for c k))) out (λ a. refl)
     (λ passed. ltb-false _ _ passed.1.1.1.0)
-
-pub taken-len : (u : Unit) (out : List ℕ) → (taken_of u out).result.len ≤ length out
-unfolding taken_of taking_of
-taken-len u out =
-    let c : Core = u.core in
-    let p : ℕ = oldest_place c in
-    given-len (λ (t : handing.Taken). t.len) (taking_checks c u.acks out) (not_taken c) (taken_at c p) (part u.bytes (48 * p) (length_at c p)) out (λ a. refl)
-    (λ passed. ltb-false _ _ passed.1.1.0)

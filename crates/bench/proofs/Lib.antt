@@ -1,5 +1,4 @@
 -- The laws of the bench program.
-pub mod Shape
 pub mod PrintLaws
 pub mod StartLaws
 pub mod DeskLaws

@@ -1,127 +1,133 @@
 -- What the end of a line, and of the input, does on the bench is what it does at the script's reader.
 use mathlib.Core.Bool.{Bool, true, false, cond}
-use mathlib.Core.List.{List, []}
+use mathlib.Core.List.{List}
 use mathlib.Core.Path.{◌≡◌, refl, ap}
 use Prim.Native.Nat.{ℕ, ◌+◌, ◌<◌, ◌≤◌}
 use native.Mathlib.Omega.{arith}
 use native.Mathlib.Nat.{le_trans}
-use lib.Dec.{ltb}
 use lib.ListN.{length}
-use borrow.Author.Tests.{lt-ltb, le-ltb, eq-eqb, ne_eqb}
+use borrow.Author.Tests.{lt-ltb, le-ltb}
+use Rattle.std.specs.Prelude.{Option, Some, None}
 use Rattle.script.specs.Script.{in_range}
 use Rattle.script.specs.Print.{group_line, no_group_line}
 use Rattle.script.specs.Shown.{shown, group_in}
 use Rattle.script.specs.Written.{Wrote}
 use Rattle.script.specs.Gathered.{emptied, begun_of}
-use Rattle.script.specs.Reader.{command_in, later, over, closes, Read, read_line, ends}
+use Rattle.script.specs.Reader.{command_in, tells, closes, Read, read_line, ends}
 use Rattle.script.specs.declared.line.Line.{Line}
-use Rattle.script.specs.declared.line.Line.TheVariants.{Group, Send, Arrive, Request, Take, Unreadable}
+use Rattle.script.specs.declared.line.Line.TheVariants.{Group, Send, Arrive, Request, Take}
 use Rattle.script.specs.declared.line.Group.{Group as Opening}
-use Rattle.script.specs.declared.line.Group.TheVariants.{Of, None}
 use Rattle.script.specs.declared.collector.Collector.{Collector}
+use Rattle.script.proofs.LinesLaws.{none≢some}
 use Rattle.bench.specs.declared.desk.Desk.{Desk}
-use Rattle.bench.specs.declared.commands.Done.{Done}
+use Rattle.bench.specs.declared.reading.Stage.{Stage}
+use Rattle.bench.specs.declared.reading.Stage.TheVariants.{First, Later, Over}
 use Rattle.bench.specs.declared.reading.Bench.{Bench}
-use Rattle.bench.specs.declared.reading.Told.{Told}
-use Rattle.bench.specs.Desk.{desk_of, started_desk}
-use Rattle.bench.specs.Commands.{Acts}
-use Rattle.bench.specs.Reading.{stage_of, reader_of, Ready, begins_with, command_of, line_said, end_said, Starts, Tells, Reads, Ends}
+use Rattle.bench.specs.Desk.{started_desk}
+use Rattle.script.specs.Print.{reply_line}
+use Rattle.bench.specs.declared.reply.Reply.{Reply}
+use Rattle.bench.specs.Prints.{Prints, PrintsLine}
+use Rattle.bench.specs.Commands.{reply_of, Acts}
+use Rattle.bench.specs.Reading.{stage_of, reader_of, FitsLine, begins_with, command_of, stage_said, line_said, stage_ends, end_said, Steps, Moves, Starts, Reads, Ends}
 use Rattle.bench.proofs.PrintLaws.{wrote-prints, no-group-short, group-short}
 use Rattle.bench.proofs.StartLaws.{started-fits}
-use Rattle.bench.proofs.ReadLaws.{range-few, first_said, first_read, later-said, later-read, over-said, over-read}
+use Rattle.bench.proofs.ReadLaws.{range-few, first-means, later-means, over-means, line-read}
 use Rattle.bench.proofs.FeedLaws.{prints-none}
 
--- ---- the first line
+-- ---- a stage
 
-abbrev at-line : Collector → Desk → ℕ → ℕ → Told
-at-line c d k len = record { bench = record { line = c; desk = d; number = k }; len = len }
-
-started-ready : (c : Collector) (n w k : ℕ) → n ≤ 3 → 1 ≤ k → k ≤ 66 → Ready (record { line = c; desk = started_desk n w; number = k })
-unfolding started_desk
-started-ready c n w k few low high = record { desk = started-fits n w few; some = low; most = high; frames = omega arith }
-
-pub starts_first : {c : Collector} {d : Desk} → c ≡ emptied → d ≡ started_desk 0 0 → Starts (record { line = c; desk = d; number = 1 })
+pub starts_first : {c : Collector} → c ≡ emptied → Starts (record { line = c; stage = First })
 unfolding emptied stage_of
-starts_first {c} fresh e =
-    record { exact = rw (fresh, e); means = rw fresh; ready = rw e (started-ready c 0 0 1 (omega arith) (omega arith) (omega arith)) }
+starts_first fresh = record { exact = rw fresh; means = rw fresh; ready = tt }
 
-module _ {out out' : List ℕ} {len : ℕ} (room : 84 ≤ length out) {c : Collector} {d : Desk} (fresh : c ≡ emptied) where
-  pub begins-none : d ≡ started_desk 0 0 → Wrote out no_group_line len out' → Tells (begins_with None) 84 out (at-line c d 66 len) out'
-  begins-none e w =
-      let p = wrote-prints (le_trans no-group-short room) w in
-      record {
-        next = rw (fresh, e);
-        text = p;
-        short = omega (arith, p.count, no-group-short);
-        ready = rw e (started-ready c 0 0 66 (omega arith) (omega arith) (omega arith));
-      }
+started-line : (n w : ℕ) → n ≤ 3 → FitsLine (started_desk n w) 2
+unfolding started_desk
+started-line n w few = record { desk = started-fits n w few; some = omega arith; most = omega arith; frames = omega arith }
 
-  pub begins-group : (n w : ℕ) → n ≤ 3 → w ≤ 4 → d ≡ started_desk n w → Wrote out (group_line n w) len out' → Tells (begins_with (Of n w)) 84 out (at-line c d 2 len) out'
-  begins-group n w few narrow e x =
-      let short = group-short n w (omega arith) (omega arith) in
-      let p = wrote-prints (le_trans short room) x in
-      record {
-        next = rw (fresh, e);
-        text = p;
-        short = omega (arith, p.count);
-        ready = rw e (started-ready c n w 2 few (omega arith) (omega arith));
-      }
+module _ {out out' : List ℕ} {r : Option ℕ} {len : ℕ} (room : 84 ≤ length out) (is : r ≡ Some len) where
+  pub begins-none : Wrote out no_group_line r out' → Steps (begins_with None) out (Over, len) out'
+  begins-none w =
+      let p = wrote-prints (le_trans no-group-short room) w is in
+      record { next = refl; text = p; short = omega (arith, p.count, no-group-short); ready = tt }
 
-none≢of : {n w : ℕ} → ◌≡◌ {A = Opening} None (Of n w) → ⊥
-none≢of e =
-    let z : ◌≡◌ {A = ℕ} 0 1 = cc in
-    omega arith
+  pub begins-group : (g : Opening) {d : Desk} → g.n ≤ 3 → g.w ≤ 4 → d ≡ started_desk g.n g.w → Wrote out (group_line g.n g.w) r out'
+      → Steps (begins_with (Some g)) out (Later d 2, len) out'
+  begins-group g few narrow e x =
+      let short = group-short g.n g.w (omega arith) (omega arith) in
+      let p = wrote-prints (le_trans short room) x is in
+      record { next = rw e; text = p; short = omega (arith, p.count); ready = rw e (started-line g.n g.w few) }
 
 -- the group that is named has at most three units, and a window of at most 4
-pub group-range : (l : Line) (n w : ℕ) → group_in l ≡ Of n w → (n ≤ 3) × (w ≤ 4)
+pub group-range : (l : Option Line) (g : Opening) → group_in l ≡ Some g → (g.n ≤ 3) × (g.w ≤ 4)
 unfolding group_in
-group-range (Group m v) n w e = go (in_range m v) refl e
+group-range (Some (Group m)) g e = go (in_range m.n m.w) refl e
   where
-    go : (t : Bool) → in_range m v ≡ t → cond t (Of m v) None ≡ Of n w → (n ≤ 3) × (w ≤ 4)
+    go : (t : Bool) → in_range m.n m.w ≡ t → cond t (Some m) None ≡ Some g → (g.n ≤ 3) × (g.w ≤ 4)
     go true r q =
-        let one : m ≡ n = cc in
-        let two : v ≡ w = cc in
-        (omega (arith, (range-few m v r).0), omega (arith, (range-few m v r).1))
-    go false r q = absurd (none≢of q)
-group-range (Send u len) n w e = absurd (none≢of e)
-group-range (Arrive u f) n w e = absurd (none≢of e)
-group-range (Request u k) n w e = absurd (none≢of e)
-group-range (Take u) n w e = absurd (none≢of e)
-group-range Unreadable n w e = absurd (none≢of e)
+        let same : m ≡ g = cc in
+        rw same at (range-few m.n m.w r)
+    go false r q = absurd (none≢some q)
+group-range (Some (Send u len)) g e = absurd (none≢some e)
+group-range (Some (Arrive u f)) g e = absurd (none≢some e)
+group-range (Some (Request u k)) g e = absurd (none≢some e)
+group-range (Some (Take u)) g e = absurd (none≢some e)
+group-range None g e = absurd (none≢some e)
 
--- ---- a line
+-- ---- a line has ended
 
-module _ (b : Bench) {out : List ℕ} where
-  pub first_reads : {r : Told} {out' : List ℕ} → b.number ≡ 1 → Tells (begins_with (group_in (shown (command_in (begun_of b.line))))) 84 out r out'
-      → Reads (line_said b) (read_line (reader_of b)) 84 out r out'
-  first_reads e t = record { tells = rw (first_said b e) t; means = first_read b e }
+-- at stage s, where this line has ended
+abbrev pub Ended : Stage → Collector → List ℕ → Stage × ℕ → List ℕ → Type 0
+Ended s l out r out' = Moves (stage_said s l) (tells (stage_of s) (command_in (begun_of l))) out r out'
 
-  pub over_reads : {c : Collector} → c ≡ emptied → Ready b → 66 ≤ b.number
-      → Reads (line_said b) (read_line (reader_of b)) 84 out (at-line c b.desk b.number 0) out
-  over_reads fresh R low =
-      record {
-        tells = rw (over-said b low) (record { next = rw fresh; text = prints-none out; short = omega arith; ready = record { desk = R.desk; some = R.some; most = R.most; frames = R.frames } });
-        means = over-read b low;
-      }
+module _ (l : Collector) {out : List ℕ} where
+  pub first_ended : {r : Stage × ℕ} {out' : List ℕ} → Steps (begins_with (group_in (shown (command_in (begun_of l))))) out r out' → Ended First l out r out'
+  unfolding stage_said
+  first_ended t = record { steps = t; means = first-means l }
 
-  pub later-reads : {c : Collector} {r : Done} {out' : List ℕ} → c ≡ emptied → Ready b → 2 ≤ b.number → b.number ≤ 65 → Acts b.desk (command_of (begun_of b.line)) b.number out r out'
-      → Reads (line_said b) (read_line (reader_of b)) 84 out (at-line c r.desk (b.number + 1) r.len) out'
-  later-reads fresh R low high a =
-      record {
-        tells = rw (later-said b low high)
-            (record {
-              next = rw (fresh, a.next);
-              text = a.text;
-              short = a.short;
-              ready = record { desk = a.fits; some = omega arith; most = omega arith; frames = omega (arith, a.more, R.frames) };
-            });
-        means = later-read b low high R.desk a.means;
-      }
+  pub over_ended : Ended Over l out (Over, 0) out
+  unfolding stage_said
+  over_ended = record { steps = record { next = refl; text = prints-none out; short = omega arith; ready = tt }; means = over-means l }
+
+  module _ (d : Desk) (k : ℕ) (R : FitsLine d k) {e : Desk} {p : Reply} {len : ℕ} {out' : List ℕ}
+      (a : Acts d (command_of (begun_of l)) e p) (w : PrintsLine (reply_line k (reply_of p)) out len out') where
+    pub later-ended : k < 65 → Ended (Later d k) l out (Later e (k + 1), len) out'
+    unfolding stage_said
+    later-ended h =
+        record {
+          steps = record {
+            next = rw (lt-ltb k 65 h, a.next);
+            text = rw a.reply at w.prints;
+            short = w.short;
+            ready = record { desk = a.fits; some = omega (arith, R.some); most = omega arith; frames = omega (arith, a.more, R.frames, R.some) };
+          };
+          means = later-means d k R.desk l a.means;
+        }
+
+    pub last-ended : 65 ≤ k → Ended (Later d k) l out (Over, len) out'
+    unfolding stage_said
+    last-ended h =
+        record {
+          steps = record { next = rw (le-ltb k 65 h); text = rw a.reply at w.prints; short = w.short; ready = tt };
+          means = later-means d k R.desk l a.means;
+        }
+
+pub line_reads : (b : Bench) {out out' : List ℕ} {c : Collector} {r : Stage × ℕ} → c ≡ emptied → Ended b.stage b.line out r out'
+    → Reads (line_said b) (read_line (reader_of b)) 84 out (record { line = c; stage = r.0 }) r.1 out'
+line_reads b fresh m =
+    let t = m.steps in
+    record { tells = record { next = rw (fresh, t.next); text = t.text; short = t.short; ready = t.ready }; means = line-read b m.means }
 
 -- ---- the end
 
+stage_ends-means : (s : Stage) → stage_ends s ≡ closes (stage_of s)
+unfolding stage_ends stage_of
+stage_ends-means First = refl
+stage_ends-means (Later d k) = refl
+stage_ends-means Over = refl
+
 module _ (b : Bench) {out : List ℕ} where
-  pub line-ends : {out' : List ℕ} {r : Told} → 0 < length (begun_of b.line).bytes → Reads (line_said b) (read_line (reader_of b)) 84 out r out' → Ends b out r.len out'
+  pub line-ends : {out' : List ℕ} {e : Bench} {len : ℕ} → 0 < length (begun_of b.line).bytes → Reads (line_said b) (read_line (reader_of b)) 84 out e len out'
+      → Ends b out len out'
   unfolding end_said ends
   line-ends h t =
       record {
@@ -130,25 +136,12 @@ module _ (b : Bench) {out : List ℕ} where
         means = rw (lt-ltb 0 (length (begun_of b.line).bytes) h) (ap (λ (s : Read). s.text) t.means);
       }
 
-  pub first_ends : {out' : List ℕ} {len : ℕ} → length (begun_of b.line).bytes ≤ 0 → b.number ≡ 1 → 84 ≤ length out → Wrote out no_group_line len out' → Ends b out len out'
-  unfolding end_said ends stage_of
-  first_ends h e room w =
-      let p = wrote-prints (le_trans no-group-short room) w in
-      record {
-        text = rw (le-ltb 0 (length (begun_of b.line).bytes) h, eq-eqb b.number 1 e) p;
-        short = omega (arith, p.count, no-group-short);
-        means = rw (le-ltb 0 (length (begun_of b.line).bytes) h, eq-eqb b.number 1 e);
-      }
-
-  pub none-ends : length (begun_of b.line).bytes ≤ 0 → (b.number ≡ 1 → ⊥) → Ends b out 0 out
-  unfolding end_said ends stage_of
-  none-ends h e =
-      record {
-        text = rw (le-ltb 0 (length (begun_of b.line).bytes) h, ne_eqb b.number 1 e) (prints-none out);
-        short = omega arith;
-        means = rw (le-ltb 0 (length (begun_of b.line).bytes) h, ne_eqb b.number 1 e) (silent (ltb b.number 66));
-      }
-    where
-      silent : (t : Bool) → [] ≡ closes (cond t (later (desk_of b.desk) b.number) over)
-      silent true = refl
-      silent false = refl
+  module _ (h : length (begun_of b.line).bytes ≤ 0) where
+    pub stage-ends : {out' : List ℕ} {len : ℕ} → Prints (stage_ends b.stage) out len out' → len ≤ 84 → Ends b out len out'
+    unfolding end_said ends
+    stage-ends p short =
+        record {
+          text = rw (le-ltb 0 (length (begun_of b.line).bytes) h) p;
+          short = short;
+          means = rw (le-ltb 0 (length (begun_of b.line).bytes) h) (stage_ends-means b.stage);
+        }

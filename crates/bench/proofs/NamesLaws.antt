@@ -1,19 +1,21 @@
 -- A line that names a unit or a frame that does not exist does nothing.
 use mathlib.Core.Bool.{true, false, ◌&&◌}
 use mathlib.Core.List.{List}
-use mathlib.Core.Path.{◌≡◌, refl, sym, ap, ◌∙◌}
+use mathlib.Core.Path.{◌≡◌, refl, sym, ap}
 use Prim.Native.Nat.{ℕ}
+use native.Mathlib.Omega.{arith}
+use Rattle.std.specs.Prelude.{Some}
 use Rattle.rules.specs.Maps.{between}
 use Rattle.rules.proofs.MapsLaws.{and_left, and_right, between-low, between-high}
 use Rattle.script.specs.Items.{Command, groups, unreadable}
 use Rattle.script.specs.Desk.{refused, act}
 use Rattle.script.specs.Shown.{said}
 use Rattle.script.specs.declared.line.Line.{Line}
-use Rattle.script.specs.declared.line.Line.TheVariants.{Group, Send, Arrive, Request, Take, Unreadable}
+use Rattle.script.specs.declared.line.Line.TheVariants.{Group, Send, Arrive, Request, Take}
 use Rattle.bench.specs.declared.desk.Desk.{Desk}
-use Rattle.bench.specs.declared.commands.Done.{Done}
 use Rattle.bench.specs.Desk.{desk_of, Fits}
-use Rattle.bench.specs.Commands.{ignored, acted_of, names_known, Named, CanHear, Acts}
+use Rattle.bench.specs.declared.reply.Reply.TheVariants.{Unknown}
+use Rattle.bench.specs.Commands.{reply_of, ignored, acted_of, names_known, Named, CanHear, Acts}
 use Rattle.bench.proofs.DeskLaws.{length-frames}
 
 -- nothing is done, here and on the script's desk
@@ -22,30 +24,33 @@ pub record Ignores (d : Desk) (c : Command) : Type 0 where
   pub there : act (desk_of d) c ≡ refused (desk_of d)
 
 module _ (d : Desk) where
-  pub names-none : (l : Line) (text : List ℕ) → names_known d.n d.count l ≡ false → Ignores d (said l text)
+  pub names-none : (l : Line) (text : List ℕ) → names_known d.n d.count l ≡ false → Ignores d (said (Some l) text)
   unfolding names_known acted_of
-  names-none (Group n w) text e = record { here = refl; there = refl }
+  names-none (Group g) text e = record { here = refl; there = refl }
   names-none (Send u len) text e = record { here = rw e; there = rw e }
-  names-none (Arrive u f) text e = record { here = rw e; there = rw (length-frames d.store d.lens d.count, e) }
+  names-none (Arrive u f) text e = record { here = rw e; there = rw (length-frames d.frames d.count, e) }
   names-none (Request u k) text e = record { here = rw e; there = rw e }
   names-none (Take u) text e = record { here = rw e; there = rw e }
-  names-none Unreadable text e = record { here = refl; there = refl }
 
   pub groups_none : (n w : ℕ) → Ignores d (groups n w)
   unfolding acted_of
   groups_none n w = record { here = refl; there = refl }
 
-  -- what prints `?` and does nothing
-  pub ignored-acts : {c : Command} {line : ℕ} {out : List ℕ} {r : Done} {out' : List ℕ} → Ignores d c → Acts d unreadable line out r out' → Acts d c line out r out'
+  -- nothing was there to be called
+  pub ignored-acts : {c : Command} → Fits d → Ignores d c → Acts d c d Unknown
+  unfolding reply_of
+  ignored-acts f i =
+      record {
+        next = ap (λ x. x.desk) (sym i.here);
+        reply = ap (λ x. x.reply) (sym i.here);
+        means = rw (i.here, i.there);
+        fits = f;
+        more = omega arith;
+      }
+
+  pub unreadable_none : Ignores d unreadable
   unfolding acted_of
-  ignored-acts i a = record {
-    next = a.next ∙ ap (λ x. x.desk) (sym i.here);
-    text = rw i.here a.text;
-    short = a.short;
-    means = rw (i.here, i.there);
-    fits = a.fits;
-    more = a.more;
-  }
+  unreadable_none = record { here = refl; there = refl }
 
   -- the unit, and the frame, that a line names
   module _ (fits : Fits d) where

@@ -1,7 +1,10 @@
 -- No line that is printed is longer than 84 bytes, so that an output of 84 bytes has room for each.
 use mathlib.Core.List.{List, [], ◌∷◌}
+use mathlib.Core.Path.{◌≡◌, sym, ◌∙◌}
+use Rattle.std.specs.Prelude.{Option, Some, IsSome}
 use Prim.Native.Nat.{ℕ, ◌<◌, ◌≤◌}
 use native.Mathlib.Omega.{arith}
+use native.Mathlib.Nat.{le_trans}
 use lib.ListN.{length, take, length-take}
 use borrow.Author.Tests.{le-leb}
 use Rattle.script.specs.Desk.{unknown, answers, took}
@@ -9,12 +12,17 @@ use Rattle.script.specs.Print.{text, decimal, group_line, no_group_line, reply_l
 use Rattle.script.specs.Written.{Wrote}
 use Rattle.script.proofs.PrintLaws.{length-decimal}
 use Rattle.script.proofs.WrittenLaws.{length-joined, length-joined-last, length_taken}
-use Rattle.bench.specs.Prints.{Prints}
+use Rattle.bench.specs.Prints.{Prints, PrintsLine}
 
 -- where there was room, the whole text was written
-pub wrote-prints : {out text after : List ℕ} {r : ℕ} → length text ≤ length out → Wrote out text r after → Prints text out r after
-wrote-prints {out} {text} h w =
-    record { count = rw (le-leb (length text) (length out) h) at w.count; bytes = rw (le-leb (length text) (length out) h) at w.bytes }
+pub wrote-some : {out text after : List ℕ} {r : Option ℕ} → length text ≤ length out → Wrote out text r after → IsSome r
+wrote-some {out} {text} h w = rw (w.count, le-leb (length text) (length out) h)
+
+pub wrote-prints : {out text after : List ℕ} {r : Option ℕ} {len : ℕ} → length text ≤ length out → Wrote out text r after → r ≡ Some len
+    → Prints text out len after
+wrote-prints {out} {text} {len = len} h w is =
+    let whole : Some len ≡ Some (length text) = sym is ∙ rw (le-leb (length text) (length out) h) at w.count in
+    record { count = cc; bytes = rw (le-leb (length text) (length out) h) at w.bytes }
 
 -- a number of 32 bits
 ten : (x : ℕ) → x < 4294967296 → length (decimal x) ≤ 10
@@ -57,3 +65,10 @@ group-short n w h i =
 pub no-group-short : length no_group_line ≤ 84
 unfolding no_group_line
 no-group-short = omega arith
+
+-- a line was printed
+pub line-printed : {out text after : List ℕ} {r : Option ℕ} {len : ℕ} → length text ≤ 84 → 84 ≤ length out → Wrote out text r after → r ≡ Some len
+    → PrintsLine text out len after
+line-printed short room w is =
+    let p = wrote-prints (le_trans short room) w is in
+    record { prints = p; short = omega (arith, p.count, short) }

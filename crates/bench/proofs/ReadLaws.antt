@@ -1,15 +1,15 @@
 -- What the code holds and prints is what the script's reader holds and prints.
 use mathlib.Core.Bool.{Bool, true, false, cond}
-use mathlib.Core.List.{[]}
 use mathlib.Core.Option.{Option, none, some}
-use mathlib.Core.Path.{◌≡◌, refl, sym, ap, ◌∙◌}
+use Rattle.std.specs.Prelude.{Option as Maybe}
+use mathlib.Core.Path.{◌≡◌, refl, ap, ◌∙◌}
 use Prim.Native.Nat.{ℕ, suc, ◌+◌, ◌≤◌}
 use native.Mathlib.Omega.{arith}
 use native.Mathlib.Numerals.{add-one}
 use lib.Dec.{leb, ltb}
-use borrow.Author.Tests.{lt-ltb, le-ltb, eq-eqb, ne_eqb, leb-true}
+use borrow.Author.Tests.{leb-true}
 use Rattle.rules.specs.Sound.{ranges_fit}
-use Rattle.rules.proofs.MapsLaws.{and_left, and_right, Lt?, lt, ge, lt?}
+use Rattle.rules.proofs.MapsLaws.{and_left, and_right}
 use Rattle.rules.proofs.SoundLaws.{ranges_fit-facts}
 use Rattle.script.specs.Items.{Command, groups, sends, arrives, requests, takes, unreadable}
 use Rattle.script.specs.Desk.{act}
@@ -18,40 +18,22 @@ use Rattle.script.specs.Print.{reply_line}
 use Rattle.script.specs.Script.{Group, group_of, in_range}
 use Rattle.script.specs.Shown.{shown, group_in}
 use Rattle.script.specs.Gathered.{emptied, begun_of}
-use Rattle.script.specs.Reader.{Begun, empty, command_in, Stage, later, over, Told, begins, tells, Read, read_line}
+use Rattle.script.specs.Reader.{Begun, empty, command_in, later, over, Told, begins, tells, read_line}
 use Rattle.script.specs.declared.line.Group.{Group as Opening}
 use Rattle.script.proofs.SaidLaws.{act-said, shown_group, group_in-shown}
 use Rattle.bench.specs.declared.desk.Desk.{Desk}
+use Rattle.script.specs.declared.collector.Collector.{Collector}
+use Rattle.bench.specs.declared.reading.Stage.{Stage}
+use Rattle.bench.specs.declared.reading.Stage.TheVariants.{First, Later, Over}
 use Rattle.bench.specs.declared.reading.Bench.{Bench}
-use Rattle.bench.specs.Desk.{desk_of, Fits, started_desk}
+use Rattle.bench.specs.Desk.{desk_of, Fits}
 use Rattle.bench.specs.Commands as commands
 use Rattle.bench.specs.Commands.{acted_of}
-use Rattle.bench.specs.Reading.{stage_of, reader_of, as_script, before, begins_with, command_of, after_line, line_said}
+use Rattle.bench.specs.Reading.{stage_of, reader_of, as_script, as_told, begins_with, command_of, stage_said, line_said}
 use Rattle.bench.proofs.StartLaws.{started-means}
 use Rattle.bench.proofs.DeskLaws.{length-frames}
 
--- ---- stages
-
-pub stage-later : (d : Desk) (k : ℕ) → 2 ≤ k → k ≤ 65 → stage_of d k ≡ later (desk_of d) k
-unfolding stage_of
-stage-later d k a b = rw (ne_eqb k 1 (λ e. omega arith), lt-ltb k 66 (omega arith))
-
-pub stage-over : (d : Desk) (k : ℕ) → 66 ≤ k → stage_of d k ≡ over
-unfolding stage_of
-stage-over d k a = rw (ne_eqb k 1 (λ e. omega arith), le-ltb k 66 a)
-
-stage-next : (d : Desk) (k : ℕ) → 2 ≤ k → k ≤ 65 → stage_of d (k + 1) ≡ cond (ltb k 65) (later (desk_of d) (suc k)) over
-stage-next d k a b = go (lt? k 65)
-  where
-    go : {t : Bool} → Lt? k 65 t → stage_of d (k + 1) ≡ cond t (later (desk_of d) (suc k)) over
-    go (lt h) = stage-later d (k + 1) (omega arith) (omega arith) ∙ ap (later (desk_of d)) (add-one k)
-    go (ge h) = stage-over d (k + 1) (omega arith)
-
 -- ---- the first line
-
--- what the script's reader does where a line has ended and this was told
-abbrev ended : Told → Read
-ended t = record { next = record { line = empty; stage = t.next }; text = t.text }
 
 begun-empty : begun_of emptied ≡ empty
 unfolding emptied
@@ -82,53 +64,52 @@ group-few (requests u k) g e = absurd (none≢some e)
 group-few (takes u) g e = absurd (none≢some e)
 group-few unreadable g e = absurd (none≢some e)
 
-first-means : (c : Command) → as_script (begins_with (group_in (shown c))) ≡ ended (begins (group_of c))
-first-means c = ap (λ (g : Opening). as_script (begins_with g)) (group_in-shown c) ∙ go (group_of c) (group-few c)
+-- ---- the stage, where a line has ended
+
+begins-means : (c : Command) → as_told (begins_with (group_in (shown c))) ≡ begins (group_of c)
+unfolding stage_of
+begins-means c = ap (λ (g : Maybe Opening). as_told (begins_with g)) (group_in-shown c) ∙ go (group_of c) (group-few c)
   where
-    go : (g : Option Group) → ((h : Group) → g ≡ some h → h.n ≤ 3) → as_script (begins_with (shown_group g)) ≡ ended (begins g)
-    go none few = rw (begun-empty, stage-over (started_desk 0 0) 66 (omega arith))
-    go (some g) few =
-        rw (begun-empty, stage-later (started_desk g.n g.w) 2 (omega arith) (omega arith), started-means g.n g.w (few g refl))
+    go : (g : Option Group) → ((h : Group) → g ≡ some h → h.n ≤ 3) → as_told (begins_with (shown_group g)) ≡ begins g
+    go none few = refl
+    go (some g) few = rw (started-means g.n g.w (few g refl))
 
-module _ (b : Bench) where
+-- a line's end, at a stage whose command means what it does on the script's desk
+abbrev pub Means : Stage → Collector → Type 0
+Means s l = as_told (stage_said s l) ≡ tells (stage_of s) (command_in (begun_of l))
+
+-- line k
+module _ (d : Desk) (k : ℕ) (fits : Fits d) (l : Collector) where
   abbrev line : Begun
-  line = begun_of b.line
+  line = begun_of l
 
-  pub first_said : b.number ≡ 1 → line_said b ≡ begins_with (group_in (shown (command_in line)))
-  unfolding line_said
-  first_said e = rw (eq-eqb b.number 1 e)
+  abbrev a : commands.Acted
+  a = acted_of d (command_of line)
 
-  pub first_read : b.number ≡ 1 → as_script (line_said b) ≡ read_line (reader_of b)
+  next-means : stage_of (cond (ltb k 65) (Later a.desk (k + 1)) Over) ≡ cond (ltb k 65) (later (desk_of a.desk) (suc k)) over
   unfolding stage_of
-  first_read e =
-      ap as_script (first_said e)
-      ∙ first-means (command_in line)
-      ∙ ap (λ (k : ℕ). ended (tells (stage_of b.desk k) (command_in line))) (sym e)
-
-  pub later-said : 2 ≤ b.number → b.number ≤ 65 → line_said b ≡ after_line b.number (acted_of b.desk (command_of line))
-  unfolding line_said
-  later-said low high = rw (ne_eqb b.number 1 (λ e. omega arith), lt-ltb b.number 66 (omega arith))
-
-  pub later-read : 2 ≤ b.number → b.number ≤ 65 → Fits b.desk
-      → commands.as_script (acted_of b.desk (command_of line)) ≡ act (desk_of b.desk) (command_of line) → as_script (line_said b) ≡ read_line (reader_of b)
-  later-read low high fits m =
-      ap as_script (later-said low high)
-      ∙ (rw (begun-empty, stage-next a.desk k low high))
-      ∙ ap told (m ∙ act-said (desk_of b.desk) (omega (arith, fits.units)) (omega (arith, fits.frames, length-frames b.desk.store b.desk.lens b.desk.count)) line)
-      ∙ ap (λ (s : Stage). ended (tells s (command_in line))) (sym (stage-later b.desk k low high))
+  next-means = go (ltb k 65)
     where
-      k : ℕ
-      k = b.number
+      go : (t : Bool) → stage_of (cond t (Later a.desk (k + 1)) Over) ≡ cond t (later (desk_of a.desk) (suc k)) over
+      go true = ap (later (desk_of a.desk)) (add-one k)
+      go false = refl
 
-      a : commands.Acted
-      a = acted_of b.desk (command_of line)
+  abbrev told : script.Acted → Told
+  told x = record { next = cond (ltb k 65) (later x.desk (suc k)) over; text = reply_line k x.reply }
 
-      told : script.Acted → Read
-      told x = ended (record { next = cond (ltb k 65) (later x.desk (suc k)) over; text = reply_line k x.reply })
+  pub later-means : commands.as_script a ≡ act (desk_of d) (command_of line) → Means (Later d k) l
+  unfolding stage_said stage_of
+  later-means m =
+      (rw next-means)
+      ∙ ap told (m ∙ act-said (desk_of d) (omega (arith, fits.units)) (omega (arith, fits.frames, length-frames d.frames d.count)) line)
 
-  pub over-said : 66 ≤ b.number → line_said b ≡ record { next = before b.desk b.number; text = [] }
-  unfolding line_said
-  over-said low = rw (ne_eqb b.number 1 (λ e. omega arith), le-ltb b.number 66 low)
+pub first-means : (l : Collector) → Means First l
+unfolding stage_said stage_of
+first-means l = begins-means (command_in (begun_of l))
 
-  pub over-read : 66 ≤ b.number → as_script (line_said b) ≡ read_line (reader_of b)
-  over-read low = rw (over-said low, stage-over b.desk b.number low, begun-empty)
+pub over-means : (l : Collector) → Means Over l
+unfolding stage_said stage_of
+over-means l = refl
+
+pub line-read : (b : Bench) → Means b.stage b.line → as_script (line_said b) ≡ read_line (reader_of b)
+line-read b m = (rw begun-empty) ∙ ap (λ (t : Told). record { next = record { line = empty; stage = t.next }; text = t.text }) m

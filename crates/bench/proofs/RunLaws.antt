@@ -1,34 +1,36 @@
 -- What a whole run prints is what 01 says of the whole input.
-use mathlib.Core.Bool.{Bool}
 use mathlib.Core.List.{List, [], ◌++◌, append-nil, flatten}
 use mathlib.Core.Path.{◌≡◌, refl, sym, ap, ◌∙◌}
-use Prim.Native.Nat.{ℕ, ◌≤◌}
+use Prim.Native.Nat.{ℕ}
 use lib.ListN.{length, take, drop}
 use lib.Seq.{take-append_seam}
 use Rattle.script.specs.Script.{printed}
 use Rattle.script.specs.Gathered.{begun_of}
-use Rattle.script.specs.Reader.{Reader, start, Read, read_part, read_parts, ends, printed_parts}
+use Rattle.script.specs.Reader.{over, Reader, start, Read, read_part, read_parts, ends, printed_parts}
 use Rattle.script.proofs.ReaderLaws.{Silent, read_each-++, read_parts-flatten, printed_parts-printed, over-silent}
+use Rattle.bench.specs.declared.reading.Stage.TheVariants.{Over}
 use Rattle.bench.specs.declared.reading.Bench.{Bench}
-use Rattle.bench.specs.declared.reading.Told.{Told}
 use Rattle.bench.specs.Prints.{Prints}
-use Rattle.bench.specs.Reading.{reader_of, Ready, part_said, Starts, Reads, Ends}
+use Rattle.bench.specs.Reading.{stage_of, reader_of, Ready, part_said, Starts, Reads, Ends}
 use Rattle.bench.specs.Runs.{Turns, Run, none, then}
-use Rattle.bench.proofs.ReadLaws.{stage-over}
 
 -- the bytes that were printed
 prints-text : {text out after : List ℕ} {len : ℕ} → Prints text out len after → take len after ≡ text
 prints-text {text} {out} p = rw (p.count, p.bytes) (take-append_seam text (drop (length text) out))
 
+over_shown : (b : Bench) → b.stage ≡ Over → stage_of b.stage ≡ over
+unfolding stage_of
+over_shown b e = rw e
+
 -- one turn
 
-pub none-turns : (b : Bench) (more : Bool) → Ready b → Turns b (record { bench = b; more = more })
+pub none-turns : (b : Bench) → Ready b → Turns b b
 unfolding part_said
-none-turns b more R = record { part = []; next = refl; means = refl; ready = R }
+none-turns b R = record { part = []; next = refl; means = refl; ready = R }
 
-pub read-turns : (b : Bench) (part : List ℕ) {out out' : List ℕ} {most : ℕ} {r : Told} (more : Bool)
-    → Reads (part_said b part) (read_part (reader_of b) part) most out r out' → Turns b (record { bench = r.bench; more = more })
-read-turns b part more t =
+pub read-turns : (b : Bench) (part : List ℕ) {out out' : List ℕ} {most len : ℕ} {e : Bench}
+    → Reads (part_said b part) (read_part (reader_of b) part) most out e len out' → Turns b e
+read-turns b part t =
     record {
       part = part;
       next = t.tells.next;
@@ -41,8 +43,8 @@ read-turns b part more t =
 abbrev reached : Bench → List ℕ → Read
 reached b text = record { next = reader_of b; text = text }
 
-part-reached : (b : Bench) (part : List ℕ) {out out' : List ℕ} {most : ℕ} {r : Told} → Reads (part_said b part) (read_part (reader_of b) part) most out r out'
-    → read_part (reader_of b) part ≡ reached r.bench (take r.len out')
+part-reached : (b : Bench) (part : List ℕ) {out out' : List ℕ} {most len : ℕ} {e : Bench} → Reads (part_said b part) (read_part (reader_of b) part) most out e len out'
+    → read_part (reader_of b) part ≡ reached e (take len out')
 part-reached b part t = sym t.means ∙ (rw (t.tells.next, prints-text t.tells.text))
 
 run-reached : {b e : Bench} {ps : List (List ℕ)} {text : List ℕ} → Run b ps text e → read_parts (reader_of b) ps ≡ reached e text
@@ -62,7 +64,7 @@ module _ {b e : Bench} {ps : List (List ℕ)} {text : List ℕ} (s : Starts b) (
       ∙ printed_parts-printed ps
 
   -- no line is read any more: whatever follows, nothing is missing
-  pub over-printed : 66 ≤ e.number → (more : List (List ℕ)) → text ≡ printed (flatten (ps ++ more))
+  pub over-printed : e.stage ≡ Over → (more : List (List ℕ)) → text ≡ printed (flatten (ps ++ more))
   unfolding printed_parts
   over-printed h more =
       sym (rw (quiet.nothing, quiet.never) (append-nil (text ++ []) ∙ append-nil text))
@@ -76,4 +78,4 @@ module _ {b e : Bench} {ps : List (List ℕ)} {text : List ℕ} (s : Starts b) (
       both = read_each-++ read_part ps more start ∙ (rw (from_start s run))
 
       quiet : Silent rest
-      quiet = rw (read_parts-flatten more (reader_of e), stage-over e.desk e.number h) (over-silent (flatten more) (begun_of e.line))
+      quiet = rw (read_parts-flatten more (reader_of e), over_shown e h) (over-silent (flatten more) (begun_of e.line))

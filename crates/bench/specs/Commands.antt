@@ -1,5 +1,5 @@
 -- What each command does with the group as the code holds it, and that this is what the script's desk does.
-use Rattle.std.specs.Prelude.{Bool, true, cond, ◌&&◌, List, ◌≡◌, ℕ, ◌+◌, ◌-◌, ◌<◌, ◌≤◌, min, eqb, take}
+use Rattle.std.specs.Prelude.{Bool, true, cond, ◌&&◌, ◌≡◌, ℕ, ◌+◌, ◌-◌, ◌<◌, ◌≤◌, min, eqb, take}
 use Rattle.rules.specs.Maps.{between}
 use Rattle.handing.specs.declared.Handed.{Handed}
 use Rattle.handing.specs.Handing.{Given, asking_of}
@@ -9,49 +9,54 @@ use Rattle.unit.specs.declared.Arrived.{Arrived}
 use Rattle.unit.specs.declared.Taken.{Taken}
 use Rattle.unit.specs.Exact.{sent_of, arrived_of, taken_of}
 use Rattle.script.specs.Items.{Command, groups, sends, arrives, requests, takes, unreadable}
-use Rattle.script.specs.Desk.{Reply, unknown, answers, took, lent, act}
+use Rattle.script.specs.Desk.{unknown, answers, took, lent, act}
 use Rattle.script.specs.Desk as script
-use Rattle.script.specs.Print.{reply_line}
 use Rattle.script.specs.declared.line.Line.{Line}
-use Rattle.script.specs.declared.line.Line.TheVariants.{Group, Send, Arrive, Request, Take, Unreadable}
+use Rattle.script.specs.declared.line.Line.TheVariants.{Group, Send, Arrive, Request, Take}
 use Rattle.bench.specs.declared.desk.Desk.{Desk}
-use Rattle.bench.specs.declared.commands.Done.{Done}
-use Rattle.bench.specs.Prints.{longest, Prints}
+use Rattle.bench.specs.declared.reply.Reply.{Reply}
+use Rattle.bench.specs.declared.reply.Reply.TheVariants.{Unknown, Answers, Took}
 use Rattle.bench.specs.Desk.{unit_at, frame_in, desk_of, Fits, with_unit, kept_in}
 
--- the next group, and what is printed
+-- a reply in the script's words
+unfoldable pub reply_of : Reply → script.Reply
+reply_of Unknown = unknown
+reply_of (Answers a) = answers a
+reply_of (Took sender number word len) = took sender number (take len word)
+
+-- the next group, and the reply
 pub record Acted : Type 0 where
   pub desk : Desk
   pub reply : Reply
 
 -- in the script's words
 abbrev pub as_script : Acted → script.Acted
-as_script a = record { desk = desk_of a.desk; reply = a.reply }
+as_script a = record { desk = desk_of a.desk; reply = reply_of a.reply }
 
 abbrev pub ignored : Desk → Acted
-ignored d = record { desk = d; reply = unknown }
+ignored d = record { desk = d; reply = Unknown }
 
 -- ---- what the call on unit u gave
 
 abbrev pub after_send : Desk → ℕ → Given Sent → Acted
 after_send d u g =
     let s : Sent = g.result in
-    record { desk = kept_in (with_unit d u s.unit) s.answer g.output s.len; reply = answers s.answer }
+    record { desk = kept_in (with_unit d u s.unit) s.answer (record { bytes = g.output; len = s.len }); reply = Answers s.answer }
 
 abbrev pub after_arrival : Desk → ℕ → Arrived → Acted
-after_arrival d u a = record { desk = with_unit d u a.unit; reply = answers a.answer }
+after_arrival d u a = record { desk = with_unit d u a.unit; reply = Answers a.answer }
 
 abbrev pub after_request : Desk → Given Handed → Acted
 after_request d g =
     let h : Handed = g.result in
-    record { desk = kept_in d h.answer g.output h.len; reply = answers h.answer }
+    record { desk = kept_in d h.answer (record { bytes = g.output; len = h.len }); reply = Answers h.answer }
 
 abbrev pub after_take : Desk → ℕ → Given Taken → Acted
 after_take d u g =
     let t : Taken = g.result in
     record {
       desk = with_unit d u t.unit;
-      reply = cond (eqb t.answer 0) (took t.src t.seq (take t.len g.output)) (answers t.answer);
+      reply = cond (eqb t.answer 0) (Took t.src t.seq g.output t.len) (Answers t.answer);
     }
 
 -- ---- commands
@@ -65,7 +70,7 @@ acted_of d (groups n w) = ignored d
 acted_of d (sends u word) = cond (between 1 d.n u) (after_send d u (sent_of (unit_at d u) word (lent 117))) (ignored d)
 acted_of d (arrives u f) =
     cond (between 1 d.n u && between 1 d.count f)
-    (after_arrival d u (arrived_of (unit_at d u) (frame_in d.store d.lens (f - 1))))
+    (after_arrival d u (arrived_of (unit_at d u) (frame_in d.frames (f - 1))))
     (ignored d)
 acted_of d (requests u k) = cond (between 1 d.n u) (after_request d (asked (unit_at d u) k)) (ignored d)
 acted_of d (takes u) = cond (between 1 d.n u) (after_take d u (taken_of (unit_at d u) (lent 48))) (ignored d)
@@ -73,12 +78,11 @@ acted_of d unreadable = ignored d
 
 -- the unit and the frame that a line names exist; there are n units and so many frames
 unfoldable pub names_known : ℕ → ℕ → Line → Bool
-names_known n count (Group m w) = true
+names_known n count (Group g) = true
 names_known n count (Send u len) = between 1 n u
 names_known n count (Arrive u f) = between 1 n u && between 1 count f
 names_known n count (Request u k) = between 1 n u
 names_known n count (Take u) = between 1 n u
-names_known n count Unreadable = true
 
 -- unit u of the group
 pub record Named (d : Desk) (u : ℕ) : Type 0 where
@@ -101,11 +105,10 @@ pub record CanAct (d : Desk) : Type 0 where
   pub fits : Fits d
   pub room : d.count < 64
 
--- `next` and `text` determine the result and every byte of the output; the others say what that means
-pub record Acts (d : Desk) (c : Command) (line : ℕ) (out : List ℕ) (r : Done) (out' : List ℕ) : Type 0 where
-  pub next : r.desk ≡ (acted_of d c).desk
-  pub text : Prints (reply_line line (acted_of d c).reply) out r.len out'
-  pub short : r.len ≤ longest
+-- `next` and `reply` determine the group and the reply; the others say what that means
+pub record Acts (d : Desk) (c : Command) (e : Desk) (r : Reply) : Type 0 where
+  pub next : e ≡ (acted_of d c).desk
+  pub reply : r ≡ (acted_of d c).reply
   pub means : as_script (acted_of d c) ≡ act (desk_of d) c
-  pub fits : Fits r.desk
-  pub more : r.desk.count ≤ d.count + 1
+  pub fits : Fits e
+  pub more : e.count ≤ d.count + 1

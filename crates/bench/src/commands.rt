@@ -1,31 +1,20 @@
-// What each command does with the group, and the line that it prints.
-ghost use Rattle.std.specs.Prelude.{◌≡◌, ◌-◌, ◌≤◌, min, length, drop};
+// What each command does with the group, and what it answers.
+ghost use Rattle.std.specs.Prelude.{◌≡◌, ◌-◌, min, length, drop};
 ghost use Rattle.rules.specs.Maps.{between};
-ghost use Rattle.script.specs.Items.{sends, arrives, requests, takes, unreadable};
+ghost use Rattle.script.specs.Items.{sends, arrives, requests, takes};
 ghost use Rattle.script.specs.Shown.{said};
-ghost use Rattle.bench.specs.Desk.{Fits};
 ghost use Rattle.bench.specs.Commands.{Named, CanWrite, CanHear, CanAct, names_known, Acts};
 
-use crate::desk::Desk;
+use crate::desk::{Desk, Frame};
+use crate::reply::Reply;
 use script::line::Line;
-use script::print;
 use unit::Unit;
-
-// The next group, and how many bytes were printed.
-#[derive(Clone, Copy)]
-pub struct Done {
-    pub desk: Desk,
-    pub len: usize,
-}
 
 // x is from 1 to most.
 fn counted(x: u32, most: usize) -> bool
     ensures { result ≡ between 1 most x }
 {
-    if x == 0 {
-        return false;
-    }
-    (x as usize) <= most
+    (1..=most).contains(&(x as usize))
 }
 
 // There are n units and so many frames: the unit and the frame that a line names exist.
@@ -33,17 +22,11 @@ fn names(n: u8, count: usize, shown: Line) -> bool
     ensures { result ≡ names_known n count shown }
 {
     match shown {
-        Line::Send { unit, len: _ } => counted(unit, n as usize),
-        Line::Arrive { unit, frame } => {
-            if !counted(unit, n as usize) {
-                return false;
-            }
-            counted(frame, count)
-        }
-        Line::Request { unit, other: _ } => counted(unit, n as usize),
+        Line::Send { unit, .. } => counted(unit, n as usize),
+        Line::Arrive { unit, frame } => counted(unit, n as usize) && counted(frame, count),
+        Line::Request { unit, .. } => counted(unit, n as usize),
         Line::Take { unit } => counted(unit, n as usize),
-        Line::Group { n: _, w: _ } => true,
-        Line::Unreadable => true,
+        Line::Group(_) => true,
     }
 }
 
@@ -51,120 +34,92 @@ fn names(n: u8, count: usize, shown: Line) -> bool
 fn number_of(k: u32) -> u8
     ensures { result ≡ min k 255 }
 {
-    if k < 255 { k as u8 } else { 255 }
+    u8::try_from(k).unwrap_or(255)
 }
 
 // The last bytes of a text, so many of them; all where there are not so many.
 fn last(text: &[u8], len: usize) -> &[u8]
     ensures { result.now ≡ drop (length text.now - len) text.now }
 {
-    if text.len() < len {
-        return text;
-    }
-    let from = text.len() - len;
-    &text[from..]
+    &text[text.len().saturating_sub(len)..]
 }
 
-// A command that does nothing.
-fn unknown(d: Desk, line: u32, out: &mut [u8]) -> Done
-    requires { Fits d × (84 ≤ length out.old) }
-    ensures { Acts d unreadable line out.old result out.new }
+fn send(d: &mut Desk, u: u32, word: &[u8]) -> Reply
+    requires { CanWrite d.old u }
+    ensures { Acts d.old (sends u word.now) d.new result }
 {
-    Done {
-        desk: d,
-        len: print::unknown_line(out, line),
-    }
-}
-
-fn send(d: Desk, line: u32, u: u32, word: &[u8], out: &mut [u8]) -> Done
-    requires { CanWrite d u × (84 ≤ length out.old) }
-    ensures { Acts d (sends u word.now) line out.old result out.new }
-{
-    let i = (u as usize) - 1;
+    let i = u as usize - 1;
     let x = d.units[i];
-    let mut frame = [0u8; Unit::MOST_FRAME];
-    let s = x.send(word, &mut frame);
-    let mut e = d;
+    let mut bytes = [0u8; Unit::MOST_FRAME];
+    let s = x.send(word, &mut bytes);
     let y = s.unit;
-    e.units[i] = y;
-    Done {
-        desk: e.keep(s.answer, &frame, s.len),
-        len: print::answer_line(out, line, s.answer),
-    }
+    d.units[i] = y;
+    d.keep(s.answer, Frame { bytes, len: s.len });
+    Reply::Answers(s.answer)
 }
 
-fn arrive(d: Desk, line: u32, u: u32, f: u32, out: &mut [u8]) -> Done
-    requires { CanHear d u f × (84 ≤ length out.old) }
-    ensures { Acts d (arrives u f) line out.old result out.new }
+fn arrive(d: &mut Desk, u: u32, f: u32) -> Reply
+    requires { CanHear d.old u f }
+    ensures { Acts d.old (arrives u f) d.new result }
 {
-    let i = (u as usize) - 1;
+    let i = u as usize - 1;
     let x = d.units[i];
-    let slot = (f as usize) - 1;
-    let store = d.store;
-    let from = Unit::MOST_FRAME * slot;
-    let to = from + d.lens[slot];
-    let a = x.arrive(&store[from..to]);
-    let mut e = d;
+    let frame = d.frames[f as usize - 1];
+    let a = x.arrive(&frame.bytes[..frame.len]);
     let y = a.unit;
-    e.units[i] = y;
-    Done {
-        desk: e,
-        len: print::answer_line(out, line, a.answer),
-    }
+    d.units[i] = y;
+    Reply::Answers(a.answer)
 }
 
-fn request(d: Desk, line: u32, u: u32, k: u32, out: &mut [u8]) -> Done
-    requires { CanWrite d u × (84 ≤ length out.old) }
-    ensures { Acts d (requests u k) line out.old result out.new }
+fn request(d: &mut Desk, u: u32, k: u32) -> Reply
+    requires { CanWrite d.old u }
+    ensures { Acts d.old (requests u k) d.new result }
 {
-    let i = (u as usize) - 1;
+    let i = u as usize - 1;
     let x = d.units[i];
-    let mut frame = [0u8; Unit::MOST_FRAME];
-    let h = x.request(number_of(k), &mut frame);
-    Done {
-        desk: d.keep(h.answer, &frame, h.len),
-        len: print::answer_line(out, line, h.answer),
-    }
+    let mut bytes = [0u8; Unit::MOST_FRAME];
+    let h = x.request(number_of(k), &mut bytes);
+    d.keep(h.answer, Frame { bytes, len: h.len });
+    Reply::Answers(h.answer)
 }
 
-fn take(d: Desk, line: u32, u: u32, out: &mut [u8]) -> Done
-    requires { Named d u × (84 ≤ length out.old) }
-    ensures { Acts d (takes u) line out.old result out.new }
+fn take(d: &mut Desk, u: u32) -> Reply
+    requires { Named d.old u }
+    ensures { Acts d.old (takes u) d.new result }
 {
-    let i = (u as usize) - 1;
+    let i = u as usize - 1;
     let x = d.units[i];
     let mut word = [0u8; Unit::MOST_DATA];
     let t = x.take(&mut word);
-    let mut e = d;
     let y = t.unit;
-    e.units[i] = y;
+    d.units[i] = y;
     if t.answer != 0 {
-        return Done {
-            desk: e,
-            len: print::answer_line(out, line, t.answer),
-        };
+        return Reply::Answers(t.answer);
     }
-    let len = t.len;
-    Done {
-        desk: e,
-        len: print::taken_line(out, line, t.src as u32, t.seq, &word[..len]),
+    Reply::Took {
+        sender: t.src,
+        number: t.seq,
+        word,
+        len: t.len,
     }
 }
 
 // The command that a line shows; `text` is the line itself.
-pub fn act(d: Desk, line: u32, shown: Line, text: &[u8], out: &mut [u8]) -> Done
-    requires { CanAct d × (84 ≤ length out.old) }
-    ensures { Acts d (said shown text.now) line out.old result out.new }
+pub fn act(d: &mut Desk, shown: Option<Line>, text: &[u8]) -> Reply
+    requires { CanAct d.old }
+    ensures { Acts d.old (said shown text.now) d.new result }
 {
+    let Some(shown) = shown else {
+        return Reply::Unknown;
+    };
     if !names(d.n, d.count, shown) {
-        return unknown(d, line, out);
+        return Reply::Unknown;
     }
     match shown {
-        Line::Send { unit, len } => send(d, line, unit, last(text, len), out),
-        Line::Arrive { unit, frame } => arrive(d, line, unit, frame, out),
-        Line::Request { unit, other } => request(d, line, unit, other, out),
-        Line::Take { unit } => take(d, line, unit, out),
-        Line::Group { n: _, w: _ } => unknown(d, line, out),
-        Line::Unreadable => unknown(d, line, out),
+        Line::Send { unit, len } => send(d, unit, last(text, len)),
+        Line::Arrive { unit, frame } => arrive(d, unit, frame),
+        Line::Request { unit, other } => request(d, unit, other),
+        Line::Take { unit } => take(d, unit),
+        Line::Group(_) => Reply::Unknown,
     }
 }

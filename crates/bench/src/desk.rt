@@ -1,19 +1,26 @@
 // The group on the bench: its units, and the frames written so far.
-ghost use Rattle.std.specs.Prelude.{◌≡◌, ◌*◌, ◌<◌};
-ghost use Rattle.std.proofs.lemmas.List.Edits.{sets};
+ghost use Rattle.std.specs.Prelude.{◌≡◌, ◌<◌};
 ghost use Rattle.bench.specs.Desk.{started_unit, started_desk, kept_in};
 
 use state::Opening;
-use tables;
 use unit::Unit;
 
-// Unit u is `units[u - 1]`, closed where u is more than n. Frame f stands in slot f - 1 of the store.
+// A frame: the first len of these bytes.
+// Kept: `len ≤ 117` was tried as a ghost field; then `after_send` and `after_request` (Commands), which make a frame of
+// whatever length a call answers, can no longer be stated. It stands in `Fits`.
+#[derive(Clone, Copy)]
+pub struct Frame {
+    pub bytes: [u8; Unit::MOST_FRAME],
+    pub len: usize,
+}
+
+// Unit u is `units[u - 1]`, closed where u is more than n. Frame f is `frames[f - 1]`, and there are so many as `count`.
+// Kept: an ArrayVec of frames is no plainer. It is not Copy, and `Stage::step` takes the desk out of the bench by value.
 #[derive(Clone, Copy)]
 pub struct Desk {
     pub n: u8,
     pub units: [Unit; Desk::UNITS],
-    pub store: [u8; Desk::FRAMES * Unit::MOST_FRAME],
-    pub lens: [usize; Desk::FRAMES],
+    pub frames: [Frame; Desk::FRAMES],
     pub count: usize,
 }
 
@@ -32,14 +39,6 @@ fn opened_unit(me: u8, n: u8, w: u8) -> Unit
     u
 }
 
-// Copies a frame, and what follows it, into its slot of the store.
-fn put_frame(store: &mut [u8; Desk::FRAMES * Unit::MOST_FRAME], slot: usize, frame: &[u8])
-    requires { slot < 64 }
-    ensures { store.new ≡ sets store.old (117 * slot) frame.now }
-{
-    tables::put_bytes(store, Unit::MOST_FRAME * slot, frame);
-}
-
 impl Desk {
     // The most units on the bench, and the most frames: one for each later line.
     pub const UNITS: usize = 3;
@@ -53,27 +52,26 @@ impl Desk {
         let a = opened_unit(1, n, w);
         let b = opened_unit(2, n, w);
         let c = opened_unit(3, n, w);
+        let none = Frame {
+            bytes: [0; Unit::MOST_FRAME],
+            len: 0,
+        };
         Self {
             n,
             units: [a, b, c],
-            store: [0u8; Self::FRAMES * Unit::MOST_FRAME],
-            lens: [0usize; Self::FRAMES],
+            frames: [none; Self::FRAMES],
             count: 0,
         }
     }
 
-    // Where a call answered 0, the len bytes that it wrote are the next frame.
-    pub fn keep(mut self, answer: u32, frame: &[u8], len: usize) -> Self
-        requires { self.count < 64 }
-        ensures { result ≡ kept_in self answer frame.now len }
+    // Where a call answered 0, this is the next frame.
+    pub fn keep(&mut self, answer: u32, frame: Frame)
+        requires { self.old.count < 64 }
+        ensures { self.new ≡ kept_in self.old answer frame }
     {
-        if answer != 0 {
-            return self;
+        if answer == 0 {
+            self.frames[self.count] = frame;
+            self.count += 1;
         }
-        let slot = self.count;
-        put_frame(&mut self.store, slot, frame);
-        self.lens[slot] = len;
-        self.count = slot + 1;
-        self
     }
 }

@@ -4,28 +4,23 @@
 mod commands;
 mod desk;
 mod reading;
+mod reply;
 
 ghost use Rattle.bench.specs.Reading.{Ready};
 ghost use Rattle.bench.specs.Runs.{Turns};
 
-use reading::Bench;
+use reading::{Bench, Stage};
 use std::io;
 use std::io::{Read, Write};
 
 // How many bytes are read at once.
 const PART: usize = 64;
 
-// The bench after one part, and whether there may be more to print.
-#[derive(Clone, Copy)]
-struct Next {
-    bench: Bench,
-    more: bool,
-}
-
-// Reads a part of the input, and prints what it prints. Where the input has ended, it prints the end.
-fn turn(rt: &HostRuntime, b: Bench) -> Next
-    requires { Ready b }
-    ensures { Turns b result }
+// Reads a part of the input, and prints what it prints. Where the input has ended, it prints the end. Answers whether there
+// may be more to print.
+fn turn(rt: &HostRuntime, b: &mut Bench) -> bool
+    requires { Ready b.old }
+    ensures { Turns b.old b.new }
 {
     let mut part = [0u8; PART];
     let mut out = [0u8; Bench::LONGEST * PART];
@@ -33,33 +28,20 @@ fn turn(rt: &HostRuntime, b: Bench) -> Next
     if n == 0 {
         let len = b.end(&mut out);
         let _ = rt.stdout().write_all(&out[..len]);
-        return Next {
-            bench: b,
-            more: false,
-        };
+        return false;
     }
-    let t = b.feed(&part[..n], &mut out);
-    let len = t.len;
+    let len = b.feed(&part[..n], &mut out);
     let is_written = rt.stdout().write_all(&out[..len]).is_ok();
-    let next = t.bench;
-    Next {
-        bench: next,
-        more: is_written && next.number < Bench::OVER,
-    }
+    is_written && !matches!(b.stage, Stage::Over)
 }
 
 // A proved loop has to end, and nothing says that the input does: the count is one that no run uses up.
 fn main(rt: HostRuntime) -> io::Result<()> {
     let mut b = Bench::new();
-    let mut turns = u64::MAX;
-    while 0 < turns {
-        let t = turn(&rt, b);
-        let next = t.bench;
-        b = next;
-        if !t.more {
-            return Ok(());
+    for _ in 0..u64::MAX {
+        if !turn(&rt, &mut b) {
+            break;
         }
-        turns -= 1;
     }
     Ok(())
 }

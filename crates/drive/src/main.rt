@@ -4,9 +4,9 @@
 
 ghost use Rattle.std.specs.Prelude.{◌≡◌, ◌*◌, ◌<◌, ◌≤◌, length};
 ghost use Rattle.handing.specs.Handing.{Gives};
-ghost use Rattle.drive.specs.Run.{mixed, with_bytes, with_message, shown, visit_of, opened_units, unit_at, run_of};
+ghost use Rattle.drive.specs.Run.{mixed, with_bytes, with_message, shown, visit_of, unit_of, opened_units, unit_at, run_of};
 
-use script::{Value, number};
+use script::number;
 use state::Opening;
 use std::io;
 use std::io::Read;
@@ -29,13 +29,7 @@ fn mixed(sum: u32, x: usize) -> u32
 fn with_bytes(before: u32, s: &[u8]) -> u32
     ensures { result ≡ with_bytes before s.now }
 {
-    let mut sum = before;
-    let mut i = 0;
-    while i < s.len() {
-        sum = mixed(sum, s[i] as usize);
-        i += 1;
-    }
-    sum
+    s.iter().fold(before, |sum, x| mixed(sum, *x as usize))
 }
 
 // The sum, continued with a message: its sender, its number, the length of its data, and the output that they stand in.
@@ -55,61 +49,52 @@ fn all_taken(first: Unit, before: u32) -> Summed
     let mut sum = before;
     let mut out = [0u8; 16];
     let mut t = first.take(&mut out);
-    let mut left = Unit::PLACES;
-    while 0 < left {
+    for count in 0..Unit::PLACES {
         if t.answer != 0 {
-            left = 0;
-        } else {
-            sum = with_message(sum, t.src, t.seq, t.len, &out);
-            let u = t.unit;
-            t = u.take(&mut out);
-            left -= 1;
+            return Summed { sum, unit: t.unit };
         }
+        sum = with_message(sum, t.src, t.seq, t.len, &out);
+        t = t.unit.take(&mut out);
     }
-    let unit = t.unit;
-    Summed { sum, unit }
+    Summed { sum, unit: t.unit }
 }
 
 // The unit sends the data, or the frame arrives there, and everything is taken.
+// Kept: an enum of the two steps would be chosen by the very test that is passed here, so it is no plainer than `sends`.
+#[tactic(auto, unfolding(crate::specs::Run::visit_of))]
 fn visited(u: Unit, sends: bool, text: &[u8], frame: &mut [u8], len: usize, sum: u32) -> Summed
     requires { len ≤ length frame.old }
     ensures { Gives (visit_of u sends text.now frame.old len sum) result frame.new }
 {
     if sends {
         let s = u.send(text, frame);
-        let v = s.unit;
-        return all_taken(v, sum);
+        return all_taken(s.unit, sum);
     }
     let a = u.arrive(&frame[..len]);
-    let v = a.unit;
-    all_taken(v, sum)
+    all_taken(a.unit, sum)
+}
+
+// Unit `me` of a group: CID 1, first numbers 1; closed where there is no such unit.
+fn opened_unit(me: u8, n: u8, w: u8) -> Unit
+    ensures { result ≡ unit_of n w me }
+{
+    Unit::open(Opening {
+        me,
+        n,
+        w,
+        cid: 1,
+        first: [1; 8],
+    })
+    .unit
 }
 
 // Eight units, of which the first n are open.
 fn opened(n: u8, w: u8) -> [Unit; Unit::MOST_UNITS]
     ensures { result ≡ opened_units n w 8 }
 {
-    let none = Unit::open(Opening {
-        me: 0,
-        n,
-        w,
-        cid: 1,
-        first: [1u32; 8],
-    });
-    let closed = none.unit;
-    let mut units = [closed; Unit::MOST_UNITS];
-    let mut k: u8 = 0;
-    while k < 8 {
-        let o = Unit::open(Opening {
-            me: k + 1,
-            n,
-            w,
-            cid: 1,
-            first: [1u32; 8],
-        });
-        let u = o.unit;
-        units[k as usize] = u;
-        k += 1;
+    let mut units = [opened_unit(0, n, w); Unit::MOST_UNITS];
+    for k in 0..8 {
+        units[k as usize] = opened_unit(k + 1, n, w);
     }
     units
 }
@@ -133,17 +118,20 @@ fn run(n: u8, w: u8, messages: u32) -> u32
     let mut text = [0u8; 16];
     let mut frame = [0u8; Unit::MOST_FRAME];
     let mut sum = 0;
-    let mut i: usize = 0;
-    while i < visits {
+    for i in 0..visits {
         let m = i / size;
         let k = unit_at(i, size);
         text[m % 16] = (m % 256) as u8;
-        let u = units[k];
-        let v = visited(u, i % size == 0, &text, &mut frame, 53 + 4 * size, sum);
-        let next = v.unit;
-        units[k] = next;
+        let v = visited(
+            units[k],
+            i % size == 0,
+            &text,
+            &mut frame,
+            53 + 4 * size,
+            sum,
+        );
+        units[k] = v.unit;
         sum = v.sum;
-        i += 1;
     }
     sum
 }
@@ -154,19 +142,16 @@ fn main(rt: HostRuntime) -> io::Result<()> {
     if end < 5 {
         return Ok(());
     }
-    let Value::Is(n) = number(&buffer[0..1]) else {
+    let Some(n) = number(&buffer[0..1]) else {
         return Ok(());
     };
-    let Value::Is(w) = number(&buffer[2..3]) else {
+    let Some(w) = number(&buffer[2..3]) else {
         return Ok(());
     };
-    let Value::Is(messages) = number(&buffer[4..end]) else {
+    let Some(messages) = number(&buffer[4..end]) else {
         return Ok(());
     };
-    if n < 1 {
-        return Ok(());
-    }
-    if 8 < n {
+    if !(1..=8).contains(&n) {
         return Ok(());
     }
     let sum = run(n as u8, (w % 256) as u8, messages);

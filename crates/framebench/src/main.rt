@@ -7,7 +7,7 @@ ghost use Rattle.framebench.specs.Rounds.{message_of, sum_of, total_of};
 
 use frame::{Data, Frame, read};
 use framewrite::write_data;
-use script::{Value, number};
+use script::number;
 use std::io;
 use std::io::Read;
 
@@ -64,7 +64,7 @@ fn total(rounds: u32) -> u32
 fn main(rt: HostRuntime) -> io::Result<()> {
     let mut buffer = [0u8; 16];
     let n = rt.stdin().read(&mut buffer).unwrap_or(0);
-    let Value::Is(rounds) = number(&buffer[..n]) else {
+    let Some(rounds) = number(&buffer[..n]) else {
         return Ok(());
     };
     println!(rt; "{}", total(rounds))

@@ -10,9 +10,7 @@ pub fn put_part(out: &mut [u8], list: &[u8], start: usize, count: usize)
     requires { (count ≤ length out.old) × (start + count ≤ 18446744073709551615) }
     ensures { out.new ≡ written out.old (part list.now start count) }
 {
-    let mut i = 0;
-    while i < count {
-        out[i] = tables::byte(list, start + i);
-        i += 1;
+    for i in 0..count {
+        out[i] = tables::get_or(list, start + i, 0);
     }
 }

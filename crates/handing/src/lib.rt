@@ -24,6 +24,7 @@ pub struct Taken {
 }
 
 // Takes the oldest confirmed message: its data stand at the front of the output, and its place is free.
+#[tactic(auto, unfolding(crate::specs::Handing::taking_of))]
 pub fn taking<'a>(
     c: Core,
     acks: &'a [u32],
@@ -33,29 +34,27 @@ pub fn taking<'a>(
     ensures { Gives (taking_of c acks.now bytes.now out.old) result out.new }
 {
     checked(c, acks)?;
-    let o = c.order;
-    if o.confirmed == 0 {
+    if c.order.confirmed == 0 {
         return Err(Refusal::Nothing);
     }
-    let p = tables::byte(&o.list, 0);
+    let p = tables::get_or(&c.order.list, 0, 0);
     let i = p as usize;
-    let len = tables::byte(&c.lens, i) as usize;
+    let len = tables::get_or(&c.lens, i, 0) as usize;
     if out.len() < len {
         return Err(Refusal::OutputTooShort);
     }
     put_part(out, bytes, 48 * i, len);
-    let rest = without_first(o);
-    let mut d = c;
-    d.order = rest;
+    let order = without_first(c.order);
     Ok(Taken {
         src: p / 16 + 1,
-        seq: tables::get(&c.seqs, i),
+        seq: tables::get_or(&c.seqs, i, 0),
         len,
-        core: d,
+        core: Core { order, ..c },
     })
 }
 
 // Makes the request for what is missing of unit k, at the front of the output, and gives its length.
+#[tactic(auto, unfolding(crate::specs::Handing::asking_of))]
 pub fn asking(c: Core, acks: &[u32], k: u8, out: &mut [u8]) -> Result<usize, Refusal>
     ensures { Gives (asking_of c acks.now k out.old) result out.new }
 {
@@ -71,6 +70,7 @@ pub fn asking(c: Core, acks: &[u32], k: u8, out: &mut [u8]) -> Result<usize, Ref
 }
 
 // Copies the kept frame of number x to the front of the output, and gives its length.
+#[tactic(auto, unfolding(crate::specs::Handing::copying_of))]
 pub fn copying<'a>(
     c: Core,
     acks: &'a [u32],
@@ -86,7 +86,7 @@ pub fn copying<'a>(
         return Err(Refusal::Nothing);
     }
     let slot = (x - low) as usize;
-    let len = tables::byte(&c.kept, slot) as usize;
+    let len = tables::get_or(&c.kept, slot, 0) as usize;
     if out.len() < len {
         return Err(Refusal::OutputTooShort);
     }

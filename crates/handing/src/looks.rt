@@ -29,6 +29,7 @@ fn checked_for(c: Core, acks: &[u32], k: u8) -> Result<(), Refusal>
 }
 
 // How many messages are confirmed and not yet taken.
+#[tactic(auto, unfolding(crate::specs::Looks::to_take_in))]
 pub fn to_take(c: Core, acks: &[u32]) -> Result<usize, Refusal>
     ensures { result ≡ count_of (to_take_in c acks.now) }
 {
@@ -37,6 +38,7 @@ pub fn to_take(c: Core, acks: &[u32]) -> Result<usize, Refusal>
 }
 
 // How many places are free.
+#[tactic(auto, unfolding(crate::specs::Looks::free_places_in))]
 pub fn free_places(c: Core, acks: &[u32]) -> Result<usize, Refusal>
     ensures { result ≡ count_of (free_places_in c acks.now) }
 {
@@ -45,6 +47,7 @@ pub fn free_places(c: Core, acks: &[u32]) -> Result<usize, Refusal>
 }
 
 // The kept numbers: from minAL of the own index up to SEQ - 1.
+#[tactic(auto, unfolding(crate::specs::Looks::kept_numbers_in))]
 pub fn kept_numbers(c: Core, acks: &[u32]) -> Result<Numbers, Refusal>
     ensures { result ≡ numbers_of (kept_numbers_in c acks.now) }
 {
@@ -55,6 +58,7 @@ pub fn kept_numbers(c: Core, acks: &[u32]) -> Result<Numbers, Refusal>
 }
 
 // The missing numbers of unit k: from REQ on, also where none is missing.
+#[tactic(auto, unfolding(crate::specs::Looks::missing_in))]
 pub fn missing_of(c: Core, acks: &[u32], k: u8) -> Result<Numbers, Refusal>
     ensures { result ≡ numbers_of (missing_in c acks.now k) }
 {
@@ -65,10 +69,10 @@ pub fn missing_of(c: Core, acks: &[u32], k: u8) -> Result<Numbers, Refusal>
 }
 
 // How many of unit k's messages wait.
+#[tactic(auto, unfolding(crate::specs::Looks::waiting_in))]
 pub fn waiting_of(c: Core, acks: &[u32], k: u8) -> Result<usize, Refusal>
     ensures { result ≡ count_of (waiting_in c acks.now k) }
 {
     checked_for(c, acks, k)?;
-    let o = c.order;
-    Ok(lists::waiting_of(o, k))
+    Ok(lists::waiting_of(c.order, k))
 }

@@ -3,6 +3,7 @@
 #![tactic(auto)]
 
 mod confirm;
+mod held;
 mod preack;
 
 ghost use Rattle.std.specs.Prelude.{◌≡◌, [], ◌∷◌, ◌++◌, length, drop, ◌-◌};
@@ -10,6 +11,8 @@ ghost use Rattle.rules.specs.Maps.{listed};
 ghost use Rattle.lists.specs.Order.{is_of, only, total, entry, waitings, takens, slots_of, free_of, with_last, without_first};
 ghost use Rattle.lists.specs.Settle.{settled_of};
 
+use held::Held;
+use preack::Said;
 use tables;
 
 // PAL, and the taken places: the confirmed ones, then the ordered, then the waiting.
@@ -33,13 +36,11 @@ pub fn taken(o: Order) -> usize
 fn count_of(o: Order, j: u8, start: usize, end: usize) -> usize
     ensures { result ≡ length (only (is_of j) (listed start (end - start) (entry o))) }
 {
-    let mut m: usize = 0;
-    let mut q = start;
-    while q < end {
-        if tables::byte(&o.list, q) / 16 + 1 == j {
-            m = m + 1;
+    let mut m = 0;
+    for q in start..end {
+        if tables::get_or(&o.list, q, 0) / 16 + 1 == j {
+            m += 1;
         }
-        q = q + 1;
     }
     m
 }
@@ -64,14 +65,11 @@ fn slots(o: Order, j: u8) -> [bool; 16]
     ensures { result ≡ slots_of o j }
 {
     let mut marks = [false; 16];
-    let end = taken(o);
-    let mut q: usize = 0;
-    while q < end {
-        let p = tables::byte(&o.list, q);
+    for q in 0..taken(o) {
+        let p = tables::get_or(&o.list, q, 0);
         if p / 16 + 1 == j {
             marks[(p % 16) as usize] = true;
         }
-        q = q + 1;
     }
     marks
 }
@@ -81,20 +79,16 @@ pub fn free_slot(o: Order, j: u8, most: u8) -> u8
     ensures { result ≡ free_of o j most }
 {
     let marks = slots(o, j);
-    let mut k: u8 = 0;
-    while k < most {
-        if 16 <= k {
+    for k in 0..most {
+        if !tables::get_or(&marks, k as usize, false) {
             return k;
         }
-        if !marks[k as usize] {
-            return k;
-        }
-        k = k + 1;
     }
-    k
+    most
 }
 
 // Place p waits, behind all others.
+#[tactic(auto, unfolding(crate::specs::Order::with_last))]
 pub fn with_last(o: Order, p: u8) -> Order
     ensures { result ≡ with_last o p }
 {
@@ -104,7 +98,7 @@ pub fn with_last(o: Order, p: u8) -> Order
     }
     let mut r = o;
     r.list[end] = p;
-    r.waiting = o.waiting + 1;
+    r.waiting += 1;
     r
 }
 
@@ -113,40 +107,36 @@ fn shifted(list: [u8; 128]) -> [u8; 128]
     ensures { result ≡ drop 1 list ++ (0 ∷ []) }
 {
     let mut l = list;
-    let mut q: usize = 0;
-    while q < 128 {
-        l[q] = tables::byte(&list, q + 1);
-        q = q + 1;
-    }
+    l.copy_within(1.., 0);
+    l[127] = 0;
     l
 }
 
 // Without the oldest confirmed place.
+#[tactic(auto, unfolding(crate::specs::Order::without_first))]
 pub fn without_first(o: Order) -> Order
     ensures { result ≡ without_first o }
 {
     if o.confirmed == 0 {
         return o;
     }
-    let pal = o.pal;
-    let list = o.list;
-    let rest = shifted(list);
+    let rest = shifted(o.list);
     Order {
-        pal,
         list: rest,
         confirmed: o.confirmed - 1,
-        ordered: o.ordered,
-        waiting: o.waiting,
+        ..o
     }
 }
 
 // Pre-acknowledges and confirms what can be. An order that says it has more places than there are is left alone.
+#[tactic(auto, unfolding(crate::specs::Settle::settled_of))]
 pub fn settled<'a>(o: Order, al: &'a [u32], seqs: &'a [u32], acks: &'a [u32], n: u8) -> Order
     ensures { result ≡ settled_of o al.now seqs.now acks.now n }
 {
     if 128 < taken(o) {
         return o;
     }
-    let p = preack::all(o, al, seqs, acks, n);
+    let said = Said { seqs, acks };
+    let p = said.all(Held { order: o }, al, n);
     confirm::all(p, seqs, n)
 }

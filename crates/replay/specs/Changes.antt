@@ -14,7 +14,7 @@ abbrev pub place_at : Order → ℕ → ℕ
 place_at o k = get_or o.list k 0
 
 -- i, n, W, CID and SEQ
-unfoldable pub with_number : Core → ℕ → ℕ → Core
+abbrev pub with_number : Core → ℕ → ℕ → Core
 with_number c what x =
     record {
       me = cond (eqb what 6) (x % 256) c.me;
@@ -33,7 +33,7 @@ with_number c what x =
     }
 
 -- REQ_k, HEARD_k, BUF_k and AL_kj
-unfoldable pub with_entry : Core → ℕ → ℕ → ℕ → ℕ → Core
+abbrev pub with_entry : Core → ℕ → ℕ → ℕ → ℕ → Core
 with_entry c what k j x =
     record {
       me = c.me;
@@ -52,7 +52,7 @@ with_entry c what k j x =
     }
 
 -- SEQ and data length of the message at position k
-unfoldable pub with_message : Core → ℕ → ℕ → ℕ → Core
+abbrev pub with_message : Core → ℕ → ℕ → ℕ → Core
 with_message c what k x =
     record {
       me = c.me;
@@ -71,7 +71,7 @@ with_message c what k x =
     }
 
 -- PAL_kj, and the place at position k
-unfoldable pub with_order : Order → ℕ → ℕ → ℕ → ℕ → Order
+abbrev pub with_order : Order → ℕ → ℕ → ℕ → ℕ → Order
 with_order o what k j x =
     record {
       pal = cond (eqb what 5) (set o.pal (cell k j) x) o.pal;
@@ -82,7 +82,7 @@ with_order o what k j x =
     }
 
 -- ACK_j of the message at position k
-unfoldable pub with_ack : Unit → ℕ → ℕ → ℕ → ℕ → List ℕ
+abbrev pub with_ack : Unit → ℕ → ℕ → ℕ → ℕ → List ℕ
 with_ack u what k j x = cond (eqb what 12) (set u.acks (8 * place_at u.core.order k + (j - 1)) x) u.acks
 
 unfoldable pub changed_of : Unit → ℕ → ℕ → ℕ → ℕ → Unit

@@ -1,9 +1,14 @@
 // A call on a unit, as its record names it.
-ghost use Rattle.std.specs.Prelude.{◌≡◌, ◌≤◌, length};
+ghost use Rattle.std.specs.Prelude.{◌≡◌, ◌+◌, ◌*◌, ◌≤◌, length};
+ghost use Rattle.rules.specs.Maps.{listed};
 ghost use Rattle.handing.specs.Handing.{Gives};
-ghost use Rattle.replay.specs.Calls.{open_made, send_made, arrive_made, handed_made, ask_made, copy_made, take_made, look_made, seen_made, made_of};
+ghost use Rattle.replay.specs.Calls.{gives, open_made, send_made, arrive_made, handed_made, take_made, look_made, made_of};
+ghost use Rattle.replay.specs.Kinds.{call_number};
+ghost use Rattle.replay.specs.Changes.{changed_of};
+ghost use Rattle.replay.specs.Record.{byte_at, number_at, call_of};
 
 use crate::changes::changed;
+use crate::kinds::Call;
 use crate::record::{number_at, text};
 use handing::Handed;
 use handing::looks::Look;
@@ -21,61 +26,67 @@ pub struct Made {
     pub unit: Unit,
 }
 
+impl Made {
+    // What a call without numbers gives.
+    fn bare(answer: u32, unit: Unit) -> Self
+        ensures { result ≡ gives answer 0 0 0 unit }
+    {
+        Self {
+            answer,
+            a: 0,
+            b: 0,
+            c: 0,
+            unit,
+        }
+    }
+}
+
+// The eight first numbers of an opening.
+fn firsts(s: &[u8]) -> [u32; 8]
+    ensures { result ≡ listed 0 8 (λ k. number_at s.now (11 + 4 * k)) }
+{
+    let mut first = [0; 8];
+    for k in 0..8 {
+        first[k] = number_at(s, 11 + 4 * k);
+    }
+    first
+}
+
+#[tactic(auto, unfolding(crate::specs::Calls::open_made))]
 fn opened(s: &[u8]) -> Made
     ensures { result ≡ open_made s.now }
 {
-    let first = [
-        number_at(s, 11),
-        number_at(s, 15),
-        number_at(s, 19),
-        number_at(s, 23),
-        number_at(s, 27),
-        number_at(s, 31),
-        number_at(s, 35),
-        number_at(s, 39),
-    ];
     let o = Unit::open(Opening {
         me: tables::byte(s, 8),
         n: tables::byte(s, 9),
         w: tables::byte(s, 10),
         cid: number_at(s, 2),
-        first,
+        first: firsts(s),
     });
-    let unit = o.unit;
-    Made {
-        answer: o.answer,
-        a: 0,
-        b: 0,
-        c: 0,
-        unit,
-    }
+    Made::bare(o.answer, o.unit)
 }
 
+#[tactic(auto, unfolding(crate::specs::Calls::send_made))]
 fn sent(u: Unit, text: &[u8], out: &mut [u8]) -> Made
     ensures { Gives (send_made u text.now out.old) result out.new }
 {
     let m = u.send(text, out);
-    let unit = m.unit;
     Made {
-        answer: m.answer,
         a: m.seq as usize,
         b: m.len,
-        c: 0,
-        unit,
+        ..Made::bare(m.answer, m.unit)
     }
 }
 
+#[tactic(auto, unfolding(crate::specs::Calls::arrive_made))]
 fn arrived(u: Unit, frame: &[u8]) -> Made
     ensures { result ≡ arrive_made u frame.now }
 {
     let m = u.arrive(frame);
-    let unit = m.unit;
     Made {
-        answer: m.answer,
         a: m.first as usize,
         b: m.last as usize,
-        c: 0,
-        unit,
+        ..Made::bare(m.answer, m.unit)
     }
 }
 
@@ -84,39 +95,21 @@ fn handed(u: Unit, h: Handed) -> Made
     ensures { result ≡ handed_made u h }
 {
     Made {
-        answer: h.answer,
         a: h.len,
-        b: 0,
-        c: 0,
-        unit: u,
+        ..Made::bare(h.answer, u)
     }
 }
 
-fn asked(u: Unit, k: u8, out: &mut [u8]) -> Made
-    ensures { Gives (ask_made u k out.old) result out.new }
-{
-    let m = u.request(k, out);
-    handed(u, m)
-}
-
-fn copied(u: Unit, x: u32, out: &mut [u8]) -> Made
-    ensures { Gives (copy_made u x out.old) result out.new }
-{
-    let m = u.copy(x, out);
-    handed(u, m)
-}
-
+#[tactic(auto, unfolding(crate::specs::Calls::take_made))]
 fn taken(u: Unit, out: &mut [u8]) -> Made
     ensures { Gives (take_made u out.old) result out.new }
 {
     let m = u.take(out);
-    let unit = m.unit;
     Made {
-        answer: m.answer,
         a: m.src as usize,
         b: m.seq as usize,
         c: m.len,
-        unit,
+        ..Made::bare(m.answer, m.unit)
     }
 }
 
@@ -124,69 +117,64 @@ fn looked(u: Unit, l: Look) -> Made
     ensures { result ≡ look_made u l }
 {
     Made {
-        answer: l.answer,
         a: l.first as usize,
         b: l.count,
-        c: 0,
-        unit: u,
+        ..Made::bare(l.answer, u)
     }
 }
 
-// The calls that change nothing and write nothing.
-fn seen(u: Unit, call: u8, k: u8) -> Made
-    ensures { result ≡ seen_made u call k }
+// The unit with the number set that the record names.
+fn set(u: Unit, s: &[u8], x: u32) -> Made
+    ensures { result ≡ gives 0 0 0 0 (changed_of u (byte_at s.now 8) (byte_at s.now 9) (byte_at s.now 10) x) }
 {
+    Made::bare(
+        0,
+        changed(
+            u,
+            tables::byte(s, 8),
+            tables::byte(s, 9),
+            tables::byte(s, 10),
+            x,
+        ),
+    )
+}
+
+// The call of a record. Calls that write nothing leave the output as it was.
+#[tactic(auto, unfolding(crate::specs::Calls::made_of, crate::specs::Calls::ask_made, crate::specs::Calls::copy_made, crate::specs::Calls::seen_made))]
+fn named(u: Unit, call: Call, s: &[u8], out: &mut [u8]) -> Made
+    requires { (208 ≤ length s.now) × (call_number call ≡ call_of s.now) }
+    ensures { Gives (made_of u s.now out.old) result out.new }
+{
+    let x = number_at(s, 2);
+    let k = (x % 256) as u8;
     match call {
-        6 => looked(u, u.to_take()),
-        7 => looked(u, u.free_places()),
-        8 => looked(u, u.kept_numbers()),
-        9 => looked(u, u.missing_of(k)),
-        10 => looked(u, u.waiting_of(k)),
-        11 => Made {
-            answer: 0,
-            a: if u.is_sound() { 1 } else { 0 },
-            b: 0,
-            c: 0,
-            unit: u,
+        Call::Open => opened(s),
+        Call::Send => sent(u, text(s), out),
+        Call::Arrive => arrived(u, text(s)),
+        Call::Request => handed(u, u.request(k, out)),
+        Call::Copy => handed(u, u.copy(x, out)),
+        Call::Take => taken(u, out),
+        Call::ToTake => looked(u, u.to_take()),
+        Call::FreePlaces => looked(u, u.free_places()),
+        Call::KeptNumbers => looked(u, u.kept_numbers()),
+        Call::MissingOf => looked(u, u.missing_of(k)),
+        Call::WaitingOf => looked(u, u.waiting_of(k)),
+        Call::IsSound => Made {
+            a: usize::from(u.is_sound()),
+            ..Made::bare(0, u)
         },
-        _ => Made {
-            answer: 0,
-            a: 0,
-            b: 0,
-            c: 0,
-            unit: u,
-        },
+        Call::Set => set(u, s, x),
     }
 }
 
-// The call that a record names. Calls that write nothing leave the output as it was.
+// The call that a record names; where there is no such call, nothing is done.
+#[tactic(auto, using(crate::proofs::CallLaws::made_none))]
 pub fn make(u: Unit, s: &[u8], out: &mut [u8]) -> Made
     requires { 208 ≤ length s.now }
     ensures { Gives (made_of u s.now out.old) result out.new }
 {
-    let call = tables::byte(s, 0);
-    let x = number_at(s, 2);
-    let k = (x % 256) as u8;
-    match call {
-        0 => opened(s),
-        1 => sent(u, text(s), out),
-        2 => arrived(u, text(s)),
-        3 => asked(u, k, out),
-        4 => copied(u, x, out),
-        5 => taken(u, out),
-        12 => Made {
-            answer: 0,
-            a: 0,
-            b: 0,
-            c: 0,
-            unit: changed(
-                u,
-                tables::byte(s, 8),
-                tables::byte(s, 9),
-                tables::byte(s, 10),
-                x,
-            ),
-        },
-        _ => seen(u, call, k),
+    match Call::try_from(tables::byte(s, 0)) {
+        Ok(call) => named(u, call, s, out),
+        Err(_) => Made::bare(0, u),
     }
 }

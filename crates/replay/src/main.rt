@@ -4,6 +4,7 @@
 
 mod calls;
 mod changes;
+mod kinds;
 mod record;
 
 ghost use Rattle.std.specs.Prelude.{◌≡◌, ◌+◌, ◌*◌, ◌≤◌, length, replicate};
@@ -35,11 +36,11 @@ fn closed() -> [Unit; Unit::MOST_UNITS]
         cid: 0,
         first: [0u32; 8],
     });
-    let unit = none.unit;
-    [unit; Unit::MOST_UNITS]
+    [none.unit; Unit::MOST_UNITS]
 }
 
 // The output before a call.
+#[tactic(auto, unfolding(crate::specs::Run::blank))]
 fn blank() -> [u8; 256]
     ensures { result ≡ blank }
 {
@@ -57,35 +58,24 @@ fn answered(u: Unit, s: &[u8], out: &mut [u8], at: usize) -> Unit
     let front = head(m.answer, m.a, m.b, m.c);
     tables::put_bytes(out, at, &front);
     tables::put_bytes(out, at + 16, &lent);
-    let next = m.unit;
-    next
+    m.unit
 }
 
-// The first records of the input, so many of them.
-fn run(
-    before: [Unit; Unit::MOST_UNITS],
-    input: &[u8],
-    records: usize,
-    out: &mut [u8],
-) -> [Unit; Unit::MOST_UNITS]
+// The first records of the input, so many of them: the units after them, and their replies.
+fn run(units: &mut [Unit; Unit::MOST_UNITS], input: &[u8], records: usize, out: &mut [u8])
     requires { (208 * records ≤ length input.now) × (272 * records ≤ length out.old) }
-    ensures { Gives (run_of before input.now out.old records) result out.new }
+    ensures { Gives (run_of units.old input.now out.old records) units.new out.new }
 {
-    let mut units = before;
-    let mut i: usize = 0;
-    while i < records {
+    for i in 0..records {
         let from = CALL * i;
-        let to = from + CALL;
         let k = (tables::byte(input, from + 1) % 8) as usize;
-        let u = units[k];
-        let next = answered(u, &input[from..to], out, REPLY * i);
+        let next = answered(units[k], &input[from..from + CALL], out, REPLY * i);
         units[k] = next;
-        i += 1;
     }
-    units
 }
 
 // Reads until the bytes are full, the input ends or a read fails, and says how many bytes stand at their start then.
+// Kept: `done` is no index that counts up, but what the reads gave so far; a `for` would count reads beside it.
 fn read_full(rt: &HostRuntime, bytes: &mut [u8]) -> usize
     ensures { result ≤ length bytes.new }
 {
@@ -105,20 +95,14 @@ fn main(rt: HostRuntime) -> io::Result<()> {
     let mut units = closed();
     let mut input = [0u8; CALL * PART];
     let mut out = [0u8; REPLY * PART];
-    let mut turns = u64::MAX;
-    while 0 < turns {
+    for _ in 0..u64::MAX {
         let records = read_full(&rt, &mut input) / CALL;
-        let next = run(units, &input, records, &mut out);
-        units = next;
+        run(&mut units, &input, records, &mut out);
         let end = REPLY * records;
         let is_written = rt.stdout().write_all(&out[..end]).is_ok();
-        if !is_written {
+        if !is_written || records < PART {
             return Ok(());
         }
-        if records < PART {
-            return Ok(());
-        }
-        turns -= 1;
     }
     Ok(())
 }

@@ -1,6 +1,6 @@
 // The bytes of a call and of what it gave.
 ghost use Rattle.std.specs.Prelude.{◌≡◌, ◌≤◌, length};
-ghost use Rattle.replay.specs.Record.{number_at, text_of, head_of};
+ghost use Rattle.replay.specs.Record.{number_at, text_of, four, head_of};
 
 use tables;
 
@@ -9,11 +9,12 @@ pub fn number_at(s: &[u8], at: usize) -> u32
     requires { at ≤ 204 }
     ensures { result ≡ number_at s.now at }
 {
-    let a = tables::byte(s, at) as u32;
-    let b = tables::byte(s, at + 1) as u32;
-    let c = tables::byte(s, at + 2) as u32;
-    let d = tables::byte(s, at + 3) as u32;
-    16777216 * a + 65536 * b + 256 * c + d
+    u32::from_be_bytes([
+        tables::byte(s, at),
+        tables::byte(s, at + 1),
+        tables::byte(s, at + 2),
+        tables::byte(s, at + 3),
+    ])
 }
 
 // Those of the 200 bytes that count.
@@ -24,26 +25,20 @@ pub fn text(s: &[u8]) -> &[u8]
     tables::front(&s[8..208], tables::byte(s, 7) as usize)
 }
 
+// The last four bytes of a number, high byte first.
+fn four(x: usize) -> [u8; 4]
+    ensures { result ≡ four x }
+{
+    ((x % 4294967296) as u32).to_be_bytes()
+}
+
 // Answer and numbers of a call, as the reply starts with them.
 pub fn head(answer: u32, a: usize, b: usize, c: usize) -> [u8; 16]
     ensures { result ≡ head_of answer a b c }
 {
-    [
-        (answer % 256) as u8,
-        (a / 16777216 % 256) as u8,
-        (a / 65536 % 256) as u8,
-        (a / 256 % 256) as u8,
-        (a % 256) as u8,
-        (b / 16777216 % 256) as u8,
-        (b / 65536 % 256) as u8,
-        (b / 256 % 256) as u8,
-        (b % 256) as u8,
-        (c / 16777216 % 256) as u8,
-        (c / 65536 % 256) as u8,
-        (c / 256 % 256) as u8,
-        (c % 256) as u8,
-        0,
-        0,
-        0,
-    ]
+    let [a0, a1, a2, a3] = four(a);
+    let [b0, b1, b2, b3] = four(b);
+    let [c0, c1, c2, c3] = four(c);
+    let low = (answer % 256) as u8;
+    [low, a0, a1, a2, a3, b0, b1, b2, b3, c0, c1, c2, c3, 0, 0, 0]
 }

@@ -22,15 +22,16 @@ set-sets d at (y ∷ l) i x h =
     ∙ ap (λ e. sets e (suc at) l) (set_comm d at i y x (λ e. omega arith))
 
 -- past the end nothing is stored
-pub sets-past : (d : List ℕ) (at : ℕ) (l : List ℕ) → length d ≤ at → sets d at l ≡ d
-sets-past d at [] h = refl
-sets-past d at (x ∷ l) h =
-    ap (λ (e : List ℕ). sets e (suc at) l) (set_out d at x h) ∙ sets-past d (suc at) l (omega arith)
+module _ {A : Type 0} where
+  pub sets-past : (d : List A) (at : ℕ) (l : List A) → length d ≤ at → sets d at l ≡ d
+  sets-past d at [] h = refl
+  sets-past d at (x ∷ l) h =
+      ap (λ (e : List A). sets e (suc at) l) (set_out d at x h) ∙ sets-past d (suc at) l (omega (arith, length-set d at x))
 
-pub sets-front : (d : List ℕ) (at : ℕ) (l : List ℕ) (n : ℕ) → length d ≤ at + n → sets d at (take n l) ≡ sets d at l
-sets-front d at l zero h = sym (sets-past d at l (omega arith))
-sets-front d at [] (suc n) h = refl
-sets-front d at (x ∷ l) (suc n) h = sets-front (set d at x) (suc at) l n (omega (arith, length-set d at x))
+  pub sets-front : (d : List A) (at : ℕ) (l : List A) (n : ℕ) → length d ≤ at + n → sets d at (take n l) ≡ sets d at l
+  sets-front d at l zero h = sym (sets-past d at l (omega arith))
+  sets-front d at [] (suc n) h = refl
+  sets-front d at (x ∷ l) (suc n) h = sets-front (set d at x) (suc at) l n (omega (arith, length-set d at x))
 
 -- stores from the front leave what the rules say was written
 pub sets-written : (d l : List ℕ) → length l ≤ length d → sets d 0 l ≡ written d l
@@ -63,7 +64,3 @@ module _ (d₀ : List ℕ) (at : ℕ) (l d : List ℕ) (i : ℕ) (s : Stored d�
   all-stored h =
       let e : i ≡ length l = omega (arith, s.count) in
       ap (λ r. sets d (at + i) r) (sym (ap (λ k. drop k l) e ∙ drop-length l)) ∙ s.rest
-
-  -- it has come to the end of d
-  pub past-stored : length d ≤ at + i → d ≡ sets d₀ at l
-  past-stored h = sym (sets-past d (at + i) (drop i l) h) ∙ s.rest

@@ -11,8 +11,10 @@ use lib.Seq.{take_all, length-take-le, take-suc}
 use borrow.Author.Tests.{lt-leb, le-leb}
 use Rattle.rules.specs.Maps.{between, all}
 use Rattle.rules.proofs.MapsLaws.{Lt?, lt, ge, lt?, Eq?, same, other, eq?, and_left, and_right, not-true}
-use Rattle.script.proofs.LinesLaws.{length_before}
-use Rattle.script.specs.Lines.{onto, before}
+use Rattle.std.specs.Prelude.{Option, Some, None}
+use Rattle.std.specs.Option.{option_eq}
+use Rattle.script.proofs.LinesLaws.{length_before, found-none, found_at}
+use Rattle.script.specs.Lines.{onto, before, Found}
 use Rattle.script.specs.Items.{space, items, is_digit, is_number, value, is_printable, is_word, unreadable, letter, of_two, of_three, of_items, command}
 
 -- ---- items
@@ -144,3 +146,24 @@ unfolding command
 command-rest l h e o =
     let long : length (before space l) < length l = omega (arith, length_before space l) in
     rw (take_rest 2 l, le-leb (length l) 80 h, items_more l long, e, take-suc l 0 0 (omega arith))
+
+-- the place is tested
+pub place-is : (r : Option ℕ) → false ≡ not (option_eq eqb r (Some 1)) → r ≡ Some 1
+place-is None e = absurd (true≢false (sym e))
+place-is (Some i) e = go (eq? i 1) e
+  where
+    go : {t : Bool} → Eq? i 1 t → false ≡ not t → Some i ≡ Some 1
+    go (same q) e = ap Some q
+    go (other q) e = absurd (true≢false (sym e))
+
+pub place-other : (r : Option ℕ) → true ≡ not (option_eq eqb r (Some 1)) → r ≡ Some 1 → ⊥
+place-other r e q = absurd (true≢false (rw q at e))
+
+-- there is no space behind a first byte
+pub command-unlettered : (l : List ℕ) (r : Option ℕ) → Found l space r → (r ≡ Some 1 → ⊥) → command l ≡ unreadable
+command-unlettered l None f h = go (eq? (length l) 1)
+  where
+    go : {t : Bool} → Eq? (length l) 1 t → command l ≡ unreadable
+    go (same e) = command-one l (found-none l space f ∙ e) e
+    go (other e) = command-letter l (λ q. e (sym (found-none l space f) ∙ q))
+command-unlettered l (Some i) f h = command-letter l (λ q. h (ap Some ((found_at l space i f).0 ∙ q)))

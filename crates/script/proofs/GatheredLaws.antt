@@ -9,12 +9,12 @@ use lib.ListN.{length, take, length-take}
 use lib.Seq.{take-suc-set, length-take-le}
 use borrow.Author.Tests.{lt-ltb, le-ltb}
 use Rattle.rules.proofs.MapsLaws.{Lt?, lt, ge, lt?}
+use Rattle.std.specs.Prelude.{None}
 use Rattle.script.specs.Items.{command}
 use Rattle.script.specs.Reader.{longer, command_in}
 use Rattle.script.specs.Shown.{shown}
 use Rattle.script.specs.Gathered.{begun_of, storing, overrun, pushed, Pushed}
 use Rattle.script.specs.declared.collector.Collector.{Collector}
-use Rattle.script.specs.declared.line.Line.TheVariants.{Unreadable}
 
 -- ---- one byte more
 
@@ -43,7 +43,7 @@ pushed-full c b h = rw (le-ltb c.len 80 h)
 
 -- ---- the line
 
-pub begun-long : (c : Collector) → c.long ≡ true → Unreadable ≡ shown (command_in (begun_of c))
+pub begun-long : (c : Collector) → c.long ≡ true → None ≡ shown (command_in (begun_of c))
 unfolding shown command_in
 begun-long c h = rw h
 

@@ -1,16 +1,18 @@
 -- Laws of the lines of a text: the same lines, found byte by byte.
 use mathlib.Core.Bool.{Bool, true, false, cond}
 use mathlib.Core.List.{List, [], ◌∷◌, ◌++◌, append-nil}
-use mathlib.Core.Path.{◌≡◌, refl, ap, ◌∙◌}
+use mathlib.Core.Path.{◌≡◌, refl, sym, ap, ◌∙◌}
 use Prim.Native.Nat.{ℕ, suc, ◌+◌, ◌<◌, ◌≤◌}
-use native.Mathlib.Numerals.{add-one}
 use native.Mathlib.Omega.{arith}
 use lib.Dec.{eqb, ltb}
-use lib.ListN.{length, get_or, drop, length-append, drop_of_length-le}
-use lib.Seq.{append_snoc, drop-cons}
-use borrow.Author.Tests.{lt-ltb, eq-eqb, ne_eqb}
-use Rattle.rules.proofs.MapsLaws.{Eq?, same, other, eq?}
-use Rattle.script.specs.Lines.{onto, line_feed, lines, before, Found}
+use lib.ListN.{length, length-append}
+use lib.Seq.{append_snoc}
+use borrow.Author.Tests.{lt-ltb}
+use Rattle.rules.proofs.MapsLaws.{Lt?, lt, ge, lt?, Eq?, same, other, eq?}
+use Rattle.std.specs.Prelude.{Option, Some, None, IfSome}
+use Rattle.std.specs.List.{position_or_len}
+use Rattle.std.proofs.lemmas.List.Recursion.{is_position_or_len}
+use Rattle.script.specs.Lines.{onto, line_feed, lines, before, place_of, Found}
 
 -- the lines of p and then l, where p is the line that is not ended yet
 abbrev pub lines_from : List ℕ → List ℕ → List (List ℕ)
@@ -44,6 +46,11 @@ lines_from-nil l = lines_from-prefixed l [] ∙ prefixed-nil (lines l)
 
 -- ---- looking for a byte
 
+pub none≢some : {A : Type 0} {x : A} → ◌≡◌ {A = Option A} None (Some x) → ⊥
+none≢some e =
+    let z : ◌≡◌ {A = ℕ} 0 1 = cc in
+    omega arith
+
 pub length_before : (c : ℕ) (l : List ℕ) → length (before c l) ≤ length l
 length_before c [] = omega arith
 length_before c (b ∷ l) = go (eqb b c) (length_before c l)
@@ -52,27 +59,35 @@ length_before c (b ∷ l) = go (eqb b c) (length_before c l)
     go true h = omega arith
     go false h = omega arith
 
-module _ (s : List ℕ) (c i : ℕ) where
-  -- a search for c has come to i
-  pub record Sought : Type 0 where
-    pub within : i ≤ length s
-    pub so_far : i + length (before c (drop i s)) ≡ length (before c s)
+-- `position` answers this place
+length_before-position : (c : ℕ) (l : List ℕ) → length (before c l) ≡ position_or_len (λ b. eqb b c) l
+length_before-position c = is_position_or_len (λ l. length (before c l)) (λ b. eqb b c) refl (λ b l. go b l (eqb b c))
+  where
+    go : (b : ℕ) (l : List ℕ) (t : Bool) → length (cond t [] (b ∷ before c l)) ≡ cond t 0 (1 + length (before c l))
+    go b l true = refl
+    go b l false = omega arith
 
 module _ (s : List ℕ) (c : ℕ) where
-  pub sought-start : Sought s c 0
-  sought-start = record { within = omega arith; so_far = omega arith }
+  place-cases : (P : Option ℕ → Type 0) → (length (before c s) < length s → P (Some (length (before c s))))
+      → (length (before c s) ≡ length s → P None) → P (place_of c s)
+  unfolding place_of
+  place-cases P some none = go (lt? (length (before c s)) (length s))
+    where
+      go : {t : Bool} → Lt? (length (before c s)) (length s) t → P (cond t (Some (length (before c s))) None)
+      go (lt h) = some h
+      go (ge h) = none (omega (arith, length_before c s))
 
-  pub sought-here : (i : ℕ) → i < length s → get_or s i 0 ≡ c → Sought s c i → Found s c i
-  sought-here i h e w =
-      let none : length (before c (drop i s)) ≡ 0 = rw (drop-cons s i 0 h, eq-eqb (get_or s i 0) c e) in
-      record { place = omega arith; within = w.within }
+  pub found_is : (r : Option ℕ)
+      → r ≡ cond (ltb (position_or_len (λ b. eqb b c) s) (length s)) (Some (position_or_len (λ b. eqb b c) s)) None → Found s c r
+  unfolding place_of
+  found_is r e =
+      let place : r ≡ place_of c s = rw (length_before-position c s) e in
+      record { place = place; within = rw place (place-cases (λ r. IfSome r (λ i. i < length s)) (λ h. h) (λ h. tt)) }
 
-  pub sought-more : (i : ℕ) → i < length s → (get_or s i 0 ≡ c → ⊥) → Sought s c i → Sought s c (i + 1)
-  sought-more i h e w =
-      let one : length (before c (drop i s)) ≡ suc (length (before c (drop (i + 1) s))) = rw (drop-cons s i 0 h, ne_eqb (get_or s i 0) c e, add-one i) in
-      omega arith
+  pub found-none : Found s c None → length (before c s) ≡ length s
+  found-none f = place-cases (λ r. None ≡ r → length (before c s) ≡ length s) (λ h e. absurd (none≢some e)) (λ h e. h) f.place
 
-  pub sought-end : (i : ℕ) → length s ≤ i → Sought s c i → Found s c i
-  sought-end i h w =
-      let none : length (before c (drop i s)) ≡ 0 = rw (drop_of_length-le s h) in
-      record { place = omega arith; within = w.within }
+  pub found_at : (i : ℕ) → Found s c (Some i) → (i ≡ length (before c s)) × (i < length s)
+  found_at i f =
+      place-cases (λ r. Some i ≡ r → (i ≡ length (before c s)) × (i < length s)) (λ h e. let q : i ≡ length (before c s) = cc in (q, omega arith))
+      (λ h e. absurd (none≢some (sym e))) f.place

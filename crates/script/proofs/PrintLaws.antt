@@ -7,6 +7,8 @@ use native.Mathlib.Omega.{arith}
 use lib.Dec.{eqb}
 use lib.ListN.{length, get_or, length-append, get_or-append}
 use borrow.Author.Tests.{lt-ltb, le-ltb, ne_eqb}
+use Rattle.std.specs.Fmt as std
+use Rattle.std.proofs.lemmas.Fmt.{AppendsLastDigit, decimal_from_appends, length-decimal-le_succ}
 use Rattle.rules.specs.Maps.{all}
 use Rattle.rules.proofs.MapsLaws.{Lt?, lt, ge, lt?, and_intro, is-between, all_append}
 use Rattle.script.specs.Items.{is_digit, is_number, value_from, value}
@@ -45,6 +47,17 @@ length-decimal (suc k) x h = go (lt? x 10) (length-decimal k (x / 10))
     go : {t : Bool} → Lt? x 10 t → (x / 10 < 10 ^ suc k → length (decimal (x / 10)) ≤ suc k) → length (decimal x) ≤ suc (suc k)
     go (lt a) ih = omega (arith, length-one x a)
     go (ge a) ih = omega (arith, length_more x a, ih (omega arith))
+
+-- these are the digits that std prints
+digits-append : AppendsLastDigit digits
+digits-append = record {
+  one = λ k x h. rw (lt-ltb x 10 h);
+  more = λ k x h. rw (le-ltb x 10 h);
+}
+
+pub decimal-std : (x : ℕ) → x < 2 ^ 64 → decimal x ≡ std.decimal x
+unfolding decimal
+decimal-std x h = decimal_from_appends digits digits-append (suc x) x h (omega (arith, length-decimal-le_succ x h))
 
 -- ---- what is printed of x is a number of the language, and says x
 

@@ -2,6 +2,7 @@
 use mathlib.Core.Bool.{Bool, true, false, cond, and-false}
 use mathlib.Core.List.{List, [], ◌∷◌, ◌++◌, append_assoc}
 use mathlib.Core.Option.{Option, none, some}
+use Rattle.std.specs.Prelude.{Option as Maybe, Some, None}
 use mathlib.Core.Path.{◌≡◌, refl, sym, ap, ◌∙◌}
 use Prim.Native.Nat.{ℕ, ◌-◌, ◌<◌}
 use native.Mathlib.Omega.{arith}
@@ -19,7 +20,6 @@ use Rattle.script.specs.Script.{Group as Named, in_range, group_of}
 use Rattle.script.specs.Reader.{Begun, command_in}
 use Rattle.script.specs.Shown.{held, shown, said, group_in}
 use Rattle.script.specs.declared.line.Group.{Group as Opening}
-use Rattle.script.specs.declared.line.Group.TheVariants.{Of, None as NoGroup}
 use Rattle.script.proofs.ItemsLaws.{above-between}
 use Rattle.script.proofs.CommandLaws.{items-some}
 use Rattle.script.proofs.ShownLaws.{three-cases}
@@ -94,9 +94,9 @@ act-said d units frames b = ap (act d) (said-shown b) ∙ act-held d units frame
 
 -- ---- the group
 
-abbrev pub shown_group : Option Named → Opening
-shown_group none = NoGroup
-shown_group (some g) = Of g.n g.w
+abbrev pub shown_group : Option Named → Maybe Opening
+shown_group none = None
+shown_group (some g) = Some (record { n = g.n; w = g.w })
 
 range-n : (n w : ℕ) → 8 < n → in_range n w ≡ false
 unfolding in_range ranges_fit
@@ -110,8 +110,8 @@ pub group_in-shown : (c : Command) → group_in (shown c) ≡ shown_group (group
 unfolding group_in shown
 group_in-shown (groups n w) = first ∙ second ∙ go (in_range n w)
   where
-    of : ℕ → ℕ → Opening
-    of x y = cond (in_range x y) (Of x y) NoGroup
+    of : ℕ → ℕ → Maybe Opening
+    of x y = cond (in_range x y) (Some (record { n = x; w = y })) None
 
     first : of (held n) (held w) ≡ of n (held w)
     first = held-cases (λ (x : ℕ). of x (held w) ≡ of n (held w)) n refl (λ past. rw (range-n last (held w) (omega arith), range-n n (held w) (omega arith)))
@@ -119,7 +119,7 @@ group_in-shown (groups n w) = first ∙ second ∙ go (in_range n w)
     second : of n (held w) ≡ of n w
     second = held-cases (λ (y : ℕ). of n y ≡ of n w) w refl (λ past. rw (range-w n last (omega arith), range-w n w (omega arith)))
 
-    go : (t : Bool) → cond t (Of n w) NoGroup ≡ shown_group (cond t (some (record { n = n; w = w })) none)
+    go : (t : Bool) → cond t (Some (record { n = n; w = w })) None ≡ shown_group (cond t (some (record { n = n; w = w })) none)
     go true = refl
     go false = refl
 group_in-shown (sends u word) = refl

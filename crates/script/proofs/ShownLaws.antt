@@ -1,23 +1,22 @@
 -- Laws of what the code shows of a line: one for each way in which the code comes to it.
 use mathlib.Core.Bool.{Bool, true, false, cond, ◌&&◌, and-true, and-false}
 use mathlib.Core.List.{List, [], ◌∷◌}
-use mathlib.Core.Path.{◌≡◌, refl, sym, ap, ◌∙◌}
-use Prim.Native.Nat.{ℕ, ◌+◌, ◌-◌, ◌≤◌, ◌<◌}
+use mathlib.Core.Path.{◌≡◌, refl, sym, ap}
+use Prim.Native.Nat.{ℕ, ◌+◌, ◌-◌, ◌≤◌}
 use Prim.Native.Char.{code}
 use native.Mathlib.Omega.{arith}
 use lib.Dec.{eqb}
 use lib.ListN.{length, take, drop}
-use lib.Seq.{take_all}
 use borrow.Author.Tests.{ne_eqb}
+use Rattle.std.specs.Prelude.{Some, None}
+use Rattle.std.specs.Bool.{then_some}
 use Rattle.rules.specs.Message.{last}
-use Rattle.rules.proofs.MapsLaws.{Lt?, lt, ge, lt?}
-use Rattle.script.specs.Lines.{before, Found}
+use Rattle.script.specs.Lines.{Found}
 use Rattle.script.specs.Items.{space, items, is_number, value, is_word, Command, groups, sends, arrives, requests, takes, unreadable, of_two, of_three, of_items}
 use Rattle.script.specs.Shown.{held, value_in, shown, of_numbers}
-use Rattle.script.proofs.LinesLaws.{length_before}
+use Rattle.script.proofs.LinesLaws.{none≢some, found-none, found_at}
 use Rattle.script.proofs.CommandLaws.{items-one, items_more, take_rest, of_items-number, of_items-rest}
-use Rattle.script.specs.declared.item.Value.TheVariants.{Is, None}
-use Rattle.script.specs.declared.line.Line.TheVariants.{Group, Send, Arrive, Request, Take, Unreadable}
+use Rattle.script.specs.declared.line.Line.TheVariants.{Group, Send, Arrive, Request, Take}
 
 -- ---- numbers
 
@@ -31,8 +30,8 @@ pub value_in-none : (l : List ℕ) → value_in l ≡ None → is_number l ≡ f
 unfolding value_in
 value_in-none l e = go (is_number l) e
   where
-    go : (t : Bool) → cond t (Is (held (value l))) None ≡ None → t ≡ false
-    go true e = let z : ◌≡◌ {A = ℕ} 0 1 = cc in absurd (omega arith)
+    go : (t : Bool) → cond t (Some (held (value l))) None ≡ None → t ≡ false
+    go true e = absurd (none≢some (sym e))
     go false e = refl
 
 -- l is a number, which 32 bits hold as x
@@ -40,13 +39,13 @@ pub record Number (l : List ℕ) (x : ℕ) : Type 0 where
   pub is : is_number l ≡ true
   pub value-is : x ≡ held (value l)
 
-pub value_in-is : (l : List ℕ) (x : ℕ) → value_in l ≡ Is x → Number l x
+pub value_in-is : (l : List ℕ) (x : ℕ) → value_in l ≡ Some x → Number l x
 unfolding value_in
 value_in-is l x e = go (is_number l) refl e
   where
-    go : (t : Bool) → is_number l ≡ t → cond t (Is (held (value l))) None ≡ Is x → Number l x
+    go : (t : Bool) → is_number l ≡ t → cond t (Some (held (value l))) None ≡ Some x → Number l x
     go true p e = record { is = p; value-is = cc }
-    go false p e = let z : ◌≡◌ {A = ℕ} 0 1 = cc in absurd (omega arith)
+    go false p e = absurd (none≢some e)
 
 -- ---- lines of two items
 
@@ -55,7 +54,7 @@ unfolding shown of_two
 shown-two c u = go (eqb c (code "T"))
   where
     go : (t : Bool) → shown (cond t (takes (held u)) unreadable) ≡ shown (cond t (takes u) unreadable)
-    go true = ap Take (held-held u)
+    go true = ap (λ (x : ℕ). Some (Take x)) (held-held u)
     go false = refl
 
 -- ---- lines of three items
@@ -79,22 +78,22 @@ module _ (c : ℕ) (z : List ℕ) (P : (ℕ → Command) → Type 0) where
 pub shown-three : (c u : ℕ) (z : List ℕ) → shown (of_three c (held u) z) ≡ shown (of_three c u z)
 unfolding shown
 shown-three c u z =
-    three-cases c z (λ f. shown (f (held u)) ≡ shown (f u)) (ap (λ (x : ℕ). Send x (length z)) (held-held u))
-    (ap (λ (x : ℕ). Group x (held (value z))) (held-held u))
-    (ap (λ (x : ℕ). Arrive x (held (value z))) (held-held u))
-    (ap (λ (x : ℕ). Request x (held (value z))) (held-held u))
+    three-cases c z (λ f. shown (f (held u)) ≡ shown (f u)) (ap (λ (x : ℕ). Some (Send x (length z))) (held-held u))
+    (ap (λ (x : ℕ). Some (Group (record { n = x; w = held (value z) }))) (held-held u))
+    (ap (λ (x : ℕ). Some (Arrive x (held (value z)))) (held-held u))
+    (ap (λ (x : ℕ). Some (Request x (held (value z)))) (held-held u))
     refl
 
 module _ (c u : ℕ) (z : List ℕ) (fits : u ≤ last) where
-  pub shown-send : c ≡ code "S" → is_word z ≡ true → Send u (length z) ≡ shown (of_three c u z)
+  pub shown-word : c ≡ code "S" → then_some (is_word z) (Send u (length z)) ≡ shown (of_three c u z)
   unfolding shown of_three
-  shown-send e w = rw (e, w, held_fits u fits)
+  shown-word e = rw e (go (is_word z))
+    where
+      go : (t : Bool) → then_some t (Send u (length z)) ≡ shown (cond t (sends u z) unreadable)
+      go true = rw (held_fits u fits)
+      go false = refl
 
-  pub shown-no-word : c ≡ code "S" → is_word z ≡ false → Unreadable ≡ shown (of_three c u z)
-  unfolding shown of_three
-  shown-no-word e w = rw (e, w)
-
-  pub shown-no-number : (c ≡ code "S" → ⊥) → is_number z ≡ false → Unreadable ≡ shown (of_three c u z)
+  pub shown-no-number : (c ≡ code "S" → ⊥) → is_number z ≡ false → None ≡ shown (of_three c u z)
   unfolding shown of_three
   shown-no-number e n = rw (ne_eqb c (code "S") e) (simp (n, and-false))
 
@@ -107,7 +106,7 @@ module _ (c u : ℕ) (z : List ℕ) (fits : u ≤ last) where
       v = value z
 
       go : (g a r : Bool)
-          → cond g (Group u (held v)) (cond a (Arrive u (held v)) (cond r (Request u (held v)) Unreadable))
+          → cond g (Some (Group (record { n = u; w = held v }))) (cond a (Some (Arrive u (held v))) (cond r (Some (Request u (held v))) None))
           ≡ shown (cond g (groups u v) (cond a (arrives u v) (cond r (requests u v) unreadable)))
       go true a r = rw (held_fits u fits)
       go false true r = rw (held_fits u fits)
@@ -116,35 +115,30 @@ module _ (c u : ℕ) (z : List ℕ) (fits : u ≤ last) where
 
 -- ---- what follows a letter, with its first item up to e
 
-items-first : (s : List ℕ) → (r : List (List ℕ)) × (items s ≡ take (length (before space s)) s ∷ r)
-items-first s = go (lt? (length (before space s)) (length s))
-  where
-    go : {t : Bool} → Lt? (length (before space s)) (length s) t → (r : List (List ℕ)) × (items s ≡ take (length (before space s)) s ∷ r)
-    go (lt h) = (items (drop (length (before space s) + 1) s), items_more s h)
-    go (ge h) = ([], items-one s (omega (arith, length_before space s)) ∙ ap (λ (x : List ℕ). x ∷ []) (sym (take_all (length (before space s)) s h)))
+module _ (c : ℕ) (s : List ℕ) where
+  module _ (f : Found s space None) where
+    pub one_none : value_in s ≡ None → None ≡ shown (of_items ((c ∷ []) ∷ items s))
+    unfolding shown
+    one_none h = rw (items-one s (found-none s space f), of_items-number (c ∷ []) s [] (value_in-none s h))
 
-module _ (c e : ℕ) (s : List ℕ) (f : Found s space e) where
-  pub after_none : value_in (take e s) ≡ None → Unreadable ≡ shown (of_items ((c ∷ []) ∷ items s))
-  unfolding shown
-  after_none h =
-      let (r, i) = items-first s in
-      rw (i, ← f.place, of_items-number (c ∷ []) (take e s) r (value_in-none (take e s) h))
+    pub after_two : (u : ℕ) → value_in s ≡ Some u → shown (of_two c u) ≡ shown (of_items ((c ∷ []) ∷ items s))
+    after_two u h =
+        let n : Number s u = value_in-is s u h in
+        rw (items-one s (found-none s space f), n.is, n.value-is) (shown-two c (value s))
 
-  pub after_two : (u : ℕ) → e ≡ length s → value_in (take e s) ≡ Is u → shown (of_two c u) ≡ shown (of_items ((c ∷ []) ∷ items s))
-  after_two u w h =
-      let n : Number s u = value_in-is s u (rw (take_all e s (omega arith)) at h) in
-      rw (items-one s (sym f.place ∙ w), n.is, n.value-is) (shown-two c (value s))
+  module _ (e : ℕ) (f : Found s space (Some e)) where
+    items-first : items s ≡ take e s ∷ items (drop (e + 1) s)
+    items-first =
+        let (p, h) = found_at s space e f in
+        rw p (items_more s (omega arith))
 
-  pub after-three : (u : ℕ) → (e ≡ length s → ⊥) → value_in (take e s) ≡ Is u
-      → shown (of_three c u (take (length s - (e + 1)) (drop (e + 1) s))) ≡ shown (of_items ((c ∷ []) ∷ items s))
-  after-three u w h =
-      let long : length (before space s) < length s = omega (arith, f.place, f.within) in
-      let n : Number (take e s) u = value_in-is (take e s) u h in
-      rw (
-        take_rest (e + 1) s,
-        items_more s long,
-        ← f.place,
-        of_items-rest (c ∷ []) (take e s) (drop (e + 1) s),
-        n.is,
-        n.value-is,
-      ) (shown-three c (value (take e s)) (drop (e + 1) s))
+    pub after_none : value_in (take e s) ≡ None → None ≡ shown (of_items ((c ∷ []) ∷ items s))
+    unfolding shown
+    after_none h = rw (items-first, of_items-number (c ∷ []) (take e s) (items (drop (e + 1) s)) (value_in-none (take e s) h))
+
+    pub after-three : (u : ℕ) → value_in (take e s) ≡ Some u
+        → shown (of_three c u (take (length s - (e + 1)) (drop (e + 1) s))) ≡ shown (of_items ((c ∷ []) ∷ items s))
+    after-three u h =
+        let n : Number (take e s) u = value_in-is (take e s) u h in
+        rw (take_rest (e + 1) s, items-first, of_items-rest (c ∷ []) (take e s) (drop (e + 1) s), n.is, n.value-is)
+        (shown-three c (value (take e s)) (drop (e + 1) s))

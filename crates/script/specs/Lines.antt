@@ -1,5 +1,5 @@
 -- Bytes in lines.
-use Rattle.std.specs.Prelude.{cond, List, [], ◌∷◌, ◌≡◌, ℕ, ◌≤◌, eqb, length}
+use Rattle.std.specs.Prelude.{cond, List, [], ◌∷◌, ◌≡◌, ℕ, ◌<◌, eqb, ltb, length, Option, Some, None, IfSome}
 
 -- b, before the first of these
 abbrev pub onto : ℕ → List (List ℕ) → List (List ℕ)
@@ -27,7 +27,11 @@ abbrev pub before : ℕ → List ℕ → List ℕ
 before c [] = []
 before c (b ∷ l) = cond (eqb b c) [] (b ∷ before c l)
 
--- r is the place of the first c in s, or the length of s where there is none
-pub record Found (s : List ℕ) (c r : ℕ) : Type 0 where
-  pub place : r ≡ length (before c s)
-  pub within : r ≤ length s
+-- the place of the first c in s, where there is one
+unfoldable pub place_of : ℕ → List ℕ → Option ℕ
+place_of c s = cond (ltb (length (before c s)) (length s)) (Some (length (before c s))) None
+
+-- r is that place
+pub record Found (s : List ℕ) (c : ℕ) (r : Option ℕ) : Type 0 where
+  pub place : r ≡ place_of c s
+  pub within : IfSome r (λ i. i < length s)

@@ -8,6 +8,7 @@ use crate::line;
 use crate::line::Line;
 
 // The first 80 bytes of the line, and whether there were more.
+// Kept: `push`, `size` and `read` promise for every `len`, one past 80 too, and an ArrayVec of 80 bytes excludes those.
 #[derive(Clone, Copy)]
 pub struct Collector {
     pub bytes: [u8; line::LONGEST],
@@ -33,9 +34,9 @@ impl Collector {
         if n < line::LONGEST {
             self.bytes[n] = b;
             self.len = n + 1;
-            return self;
+        } else {
+            self.long = true;
         }
-        self.long = true;
         self
     }
 
@@ -43,21 +44,16 @@ impl Collector {
     pub fn size(self) -> usize
         ensures { (result ≡ length (begun_of self).bytes) × (result ≤ 80) }
     {
-        let n = self.len;
-        if n < line::LONGEST {
-            return n;
-        }
-        line::LONGEST
+        self.len.min(line::LONGEST)
     }
 
-    pub fn read(self) -> Line
+    pub fn read(self) -> Option<Line>
         ensures { result ≡ shown (command_in (begun_of self)) }
     {
         if self.long {
-            return Line::Unreadable;
+            return None;
         }
-        let bytes = self.bytes;
         let n = self.size();
-        line::read(&bytes[..n])
+        line::read(&self.bytes[..n])
     }
 }

@@ -7,4 +7,4 @@ mod item;
 pub mod line;
 pub mod print;
 
-pub use item::{Value, number};
+pub use item::number;

@@ -4,7 +4,6 @@ ghost use Rattle.script.specs.Items.{items, of_items, of_two, of_three, command}
 ghost use Rattle.script.specs.Script.{in_range};
 ghost use Rattle.script.specs.Shown.{shown, of_numbers, group_in};
 
-use crate::item::Value;
 use crate::{bytes, item};
 
 // The most bytes of a line, without its line feed.
@@ -13,114 +12,86 @@ pub const LONGEST: usize = 80;
 // A number that passes 32 bits counts as 4,294,967,295, which is no unit and no frame.
 #[derive(Clone, Copy)]
 pub enum Line {
-    Group { n: u32, w: u32 },
+    Group(Group),
     // The word is the last len bytes of the line.
     Send { unit: u32, len: usize },
     Arrive { unit: u32, frame: u32 },
     Request { unit: u32, other: u32 },
     Take { unit: u32 },
-    Unreadable,
 }
 
-// The group that a first line names.
+// A group of n units with window w.
 #[derive(Clone, Copy)]
-pub enum Group {
-    Of { n: u32, w: u32 },
-    None,
+pub struct Group {
+    pub n: u32,
+    pub w: u32,
 }
 
-pub fn read(s: &[u8]) -> Line
+// None where the line is unreadable.
+pub fn read(s: &[u8]) -> Option<Line>
     ensures { result ≡ shown (command s.now) }
 {
     if LONGEST < s.len() {
-        return Line::Unreadable;
+        return None;
     }
-    let e = bytes::find(s, b' ');
-    if e != 1 {
-        return Line::Unreadable;
-    }
-    if s.len() == 1 {
-        return Line::Unreadable;
+    if bytes::find(s, b' ') != Some(1) {
+        return None;
     }
     after_letter(s[0], &s[2..])
 }
 
 // The line of letter c and the items in s.
-fn after_letter(c: u8, s: &[u8]) -> Line
+fn after_letter(c: u8, s: &[u8]) -> Option<Line>
     ensures { result ≡ shown (of_items ((c ∷ []) ∷ items s.now)) }
 {
-    let e = bytes::find(s, b' ');
-    let Value::Is(u) = item::number(&s[..e]) else {
-        return Line::Unreadable;
-    };
-    if e == s.len() {
-        return of_two(c, u);
+    match bytes::find(s, b' ') {
+        None => of_two(c, item::number(s)?),
+        Some(e) => of_three(c, item::number(&s[..e])?, &s[e + 1..]),
     }
-    of_three(c, u, &s[e + 1..])
 }
 
-fn of_two(c: u8, u: u32) -> Line
+fn of_two(c: u8, u: u32) -> Option<Line>
     ensures { result ≡ shown (of_two c u) }
 {
-    if c == b'T' {
-        return Line::Take { unit: u };
-    }
-    Line::Unreadable
+    (c == b'T').then_some(Line::Take { unit: u })
 }
 
-fn of_three(c: u8, u: u32, z: &[u8]) -> Line
+fn of_three(c: u8, u: u32, z: &[u8]) -> Option<Line>
     ensures { result ≡ shown (of_three c u z.now) }
 {
     if c == b'S' {
-        if item::is_word(z) {
-            return Line::Send {
-                unit: u,
-                len: z.len(),
-            };
-        }
-        return Line::Unreadable;
+        return item::is_word(z).then_some(Line::Send {
+            unit: u,
+            len: z.len(),
+        });
     }
-    let Value::Is(x) = item::number(z) else {
-        return Line::Unreadable;
-    };
-    numbered(c, u, x)
+    numbered(c, u, item::number(z)?)
 }
 
 // The line of letter c and two numbers.
-fn numbered(c: u8, u: u32, x: u32) -> Line
+fn numbered(c: u8, u: u32, x: u32) -> Option<Line>
     ensures { result ≡ of_numbers c u x }
 {
     match c {
-        b'G' => Line::Group { n: u, w: x },
-        b'A' => Line::Arrive { unit: u, frame: x },
-        b'R' => Line::Request { unit: u, other: x },
-        _ => Line::Unreadable,
+        b'G' => Some(Line::Group(Group { n: u, w: x })),
+        b'A' => Some(Line::Arrive { unit: u, frame: x }),
+        b'R' => Some(Line::Request { unit: u, other: x }),
+        _ => None,
     }
 }
 
 fn in_range(n: u32, w: u32) -> bool
     ensures { result ≡ in_range n w }
 {
-    if n < 2 {
-        return false;
-    }
-    if 3 < n {
-        return false;
-    }
-    if w < 2 {
-        return false;
-    }
-    w <= 4
+    (2..=3).contains(&n) && (2..=4).contains(&w)
 }
 
-pub fn group_of(l: Line) -> Group
+// The group that a first line names.
+pub fn group_of(l: Option<Line>) -> Option<Group>
     ensures { result ≡ group_in l }
 {
-    let Line::Group { n, w } = l else {
-        return Group::None;
+    let Line::Group(g) = l? else {
+        return None;
     };
-    if in_range(n, w) {
-        return Group::Of { n: n, w: w };
-    }
-    Group::None
+    in_range(g.n, g.w).then_some(g)
 }

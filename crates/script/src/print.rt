@@ -1,23 +1,18 @@
-// The lines that are printed, written to lent output. Each answers how many bytes it wrote: none where the output is too
+// The lines that are printed, written to lent output. Each answers how many bytes it wrote: None where the output is too
 // short, which is then unchanged.
 ghost use Rattle.std.specs.Prelude.{◌≡◌, [], ◌∷◌, ◌++◌, ◌+◌, ◌≤◌, length};
 ghost use Rattle.script.specs.Desk.{unknown, answers, took};
 ghost use Rattle.script.specs.Print.{decimal, joined, group_line, no_group_line, reply_items, reply_line};
 ghost use Rattle.script.specs.Written.{Put, Wrote};
 
+use itoa::Buffer;
 use tables;
 
 // How many digits x has.
 fn places(x: u32) -> usize
     ensures { (result ≡ length (decimal x)) × (result ≤ 10) }
 {
-    let mut k = 1;
-    let mut rest = x;
-    while 10 <= rest {
-        rest = rest / 10;
-        k += 1;
-    }
-    k
+    Buffer::new().format(x).len()
 }
 
 // Puts x and the byte that ends it, and answers the next place.
@@ -25,20 +20,14 @@ fn put_number(out: &mut [u8], at: usize, x: u32, end: u8) -> usize
     requires { at + length (decimal x) + 1 ≤ length out.old }
     ensures { Put out.old at (decimal x ++ (end ∷ [])) result out.new }
 {
-    let stop = at + places(x);
-    out[stop] = end;
-    let mut i = stop;
-    let mut rest = x;
-    while 10 <= rest {
-        i -= 1;
-        out[i] = b'0' + (rest % 10) as u8;
-        rest = rest / 10;
-    }
-    out[at] = b'0' + rest as u8;
-    stop + 1
+    let mut digits = Buffer::new();
+    let stop = put(out, at, digits.format(x).as_bytes());
+    put(out, stop, &[end])
 }
 
 // Puts all of s, and answers the next place.
+// Kept: output and place go together through three functions. A struct of the two holds a lent slice, and its methods would
+// say of `old` and `new` of a field what `Put` says of them here.
 fn put(out: &mut [u8], at: usize, s: &[u8]) -> usize
     requires { at + length s.now ≤ length out.old }
     ensures { Put out.old at s.now result out.new }
@@ -47,44 +36,44 @@ fn put(out: &mut [u8], at: usize, s: &[u8]) -> usize
     at + s.len()
 }
 
-pub fn group_line(out: &mut [u8], n: u32, w: u32) -> usize
+pub fn group_line(out: &mut [u8], n: u32, w: u32) -> Option<usize>
     ensures { Wrote out.old (group_line n w) result out.new }
 {
     if out.len() < places(n) + places(w) + 8 {
-        return 0;
+        return None;
     }
     let a = put(out, 0, b"group ");
     let b = put_number(out, a, n, b' ');
-    put_number(out, b, w, b'\n')
+    Some(put_number(out, b, w, b'\n'))
 }
 
-pub fn no_group_line(out: &mut [u8]) -> usize
+pub fn no_group_line(out: &mut [u8]) -> Option<usize>
     ensures { Wrote out.old no_group_line result out.new }
 {
     if out.len() < 8 {
-        return 0;
+        return None;
     }
-    put(out, 0, b"group ?\n")
+    Some(put(out, 0, b"group ?\n"))
 }
 
-pub fn answer_line(out: &mut [u8], line: u32, answer: u32) -> usize
+pub fn answer_line(out: &mut [u8], line: u32, answer: u32) -> Option<usize>
     ensures { Wrote out.old (reply_line line (answers answer)) result out.new }
 {
     if out.len() < places(line) + places(answer) + 2 {
-        return 0;
+        return None;
     }
     let a = put_number(out, 0, line, b' ');
-    put_number(out, a, answer, b'\n')
+    Some(put_number(out, a, answer, b'\n'))
 }
 
-pub fn unknown_line(out: &mut [u8], line: u32) -> usize
+pub fn unknown_line(out: &mut [u8], line: u32) -> Option<usize>
     ensures { Wrote out.old (reply_line line unknown) result out.new }
 {
     if out.len() < places(line) + 3 {
-        return 0;
+        return None;
     }
     let a = put_number(out, 0, line, b' ');
-    put(out, a, b"?\n")
+    Some(put(out, a, b"?\n"))
 }
 
 // What a successful take adds to the line number: its answer, sender, number and word.
@@ -99,16 +88,13 @@ fn put_taken(out: &mut [u8], at: usize, sender: u32, number: u32, word: &[u8]) -
     put(out, d, b"\n")
 }
 
-pub fn taken_line(out: &mut [u8], line: u32, sender: u32, number: u32, word: &[u8]) -> usize
+pub fn taken_line(out: &mut [u8], line: u32, sender: u32, number: u32, word: &[u8]) -> Option<usize>
     ensures { Wrote out.old (reply_line line (took sender number word.now)) result out.new }
 {
     let front = places(line) + places(sender) + places(number) + 6;
-    if out.len() < front {
-        return 0;
-    }
-    if out.len() - front < word.len() {
-        return 0;
+    if out.len() < front || out.len() - front < word.len() {
+        return None;
     }
     let a = put_number(out, 0, line, b' ');
-    put_taken(out, a, sender, number, word)
+    Some(put_taken(out, a, sender, number, word))
 }

@@ -5,7 +5,7 @@ ghost use Rattle.rules.specs.Message.{last};
 ghost use Rattle.rules.specs.Sound.{ranges_fit};
 ghost use Rattle.state.specs.Opening.{rows_of, core_of};
 
-use crate::{Core, Opening, soundness};
+use crate::{Core, Opening, places, soundness};
 use lists::Order;
 use tables;
 
@@ -21,35 +21,31 @@ pub fn rows(v: [u32; 8], n: u8) -> [u32; 64]
     ensures { result ≡ rows_of n v }
 {
     let mut t = [0u32; 64];
-    let mut j: u8 = 0;
-    while j < n {
-        j = j + 1;
-        let more = tables::with_column(t, j, &v);
+    for j in 0..n {
+        let more = tables::with_column(t, j + 1, &v);
         t = more;
     }
     t
 }
 
 // A unit with these first numbers, nothing taken or kept.
+#[tactic(auto, unfolding(crate::specs::Opening::core_of))]
 pub fn unit(o: Opening) -> Core
     ensures { result ≡ core_of o }
 {
     let none = [0u32; 8];
-    let first = o.first;
-    let room = [4 * (o.w as u32) * (o.n as u32); 8];
-    let seq = tables::at(&first, o.me);
-    let req = tables::raised_to(none, first, o.n);
-    let buf = tables::raised_to(none, room, o.n);
+    let room = [places(o.w, o.n); 8];
+    let req = tables::raised_to(none, o.first, o.n);
     let al = rows(req, o.n);
     Core {
         me: o.me,
         n: o.n,
         w: o.w,
         cid: o.cid,
-        seq,
+        seq: tables::at(&o.first, o.me),
         req,
         heard: req,
-        buf,
+        buf: tables::raised_to(none, room, o.n),
         al,
         kept: [0u8; 4],
         seqs: [0u32; 128],

@@ -4,7 +4,7 @@
 mod fresh;
 mod soundness;
 
-ghost use Rattle.std.specs.Prelude.{◌≡◌};
+ghost use Rattle.std.specs.Prelude.{◌≡◌, ◌*◌};
 ghost use Rattle.rules.specs.Maps.{between};
 ghost use Rattle.answers.specs.Answers.{judged};
 ghost use Rattle.state.specs.Opening.{opened_of};
@@ -75,6 +75,7 @@ pub fn opened_with(o: Opening) -> (Core, Result<(), Refusal>)
 }
 
 // minAL of the own index.
+#[tactic(auto, unfolding(crate::specs::Soundness::low_in))]
 pub fn own_low(al: &[u32], me: u8, n: u8) -> u32
     ensures { result ≡ low_in al.now me n }
 {
@@ -82,18 +83,26 @@ pub fn own_low(al: &[u32], me: u8, n: u8) -> u32
 }
 
 // k is a unit of a group of n.
+#[tactic(auto, unfolding(rules::specs::Maps::between))]
 pub fn is_unit(n: u8, k: u32) -> bool
     ensures { result ≡ between 1 n k }
 {
-    soundness::between(1, n as u64, k as u64)
+    (1..=n as u32).contains(&k)
+}
+
+// How many places n senders have, 4W each.
+fn places(w: u8, n: u8) -> u32
+    ensures { result ≡ 4 * w * n }
+{
+    4 * (w as u32) * (n as u32)
 }
 
 // The number of free places.
+#[tactic(auto, unfolding(crate::specs::View::free_places))]
 pub fn free_places(c: Core) -> u32
     ensures { result ≡ free_places c }
 {
-    let order = c.order;
-    tables::above(4 * (c.w as u32) * (c.n as u32), lists::taken(order) as u32)
+    places(c.w, c.n).saturating_sub(lists::taken(c.order) as u32)
 }
 
 // Refuses a unit that is not sound.
@@ -108,22 +117,13 @@ pub fn checked(c: Core, acks: &[u32]) -> Result<(), Refusal>
 }
 
 // Whether the unit is sound.
+#[tactic(auto, unfolding(crate::specs::Soundness::sound_of, rules::specs::Sound::ranges_fit, rules::specs::Maps::between))]
 pub fn sound(c: Core, acks: &[u32]) -> bool
     ensures { result ≡ sound_of c acks.now }
 {
-    if !soundness::ranges_fit(c.me, c.n, c.w) {
-        return false;
-    }
-    if !soundness::nexts_fit(c.n, c.seq, &c.req, &c.heard, &c.al, &c.order.pal) {
-        return false;
-    }
-    if tables::at(&c.req, c.me) != c.seq {
-        return false;
-    }
-    let kept = c.kept;
-    if !soundness::window_fits(own_low(&c.al, c.me, c.n), c.w, c.n, c.seq, kept) {
-        return false;
-    }
-    let order = c.order;
-    soundness::places_fit(c.n, c.w, &c.seqs, &c.lens, acks, order)
+    soundness::ranges_fit(c.me, c.n, c.w)
+        && soundness::nexts_fit(&c)
+        && tables::at(&c.req, c.me) == c.seq
+        && soundness::window_fits(&c)
+        && soundness::places_fit(&c, acks)
 }

@@ -10,7 +10,7 @@ use Rattle.rules.specs.Message.{Said, message, request, decode}
 use Rattle.rules.proofs.MapsLaws.{and_right, between-low, between-high, or_left, or_right}
 use Rattle.rules.proofs.LimitsLaws.{decode-limits}
 use Rattle.answers.specs.Answers.{Answered, judged}
-use Rattle.answers.proofs.AnswersLaws.{ok_passes}
+use Rattle.answers.proofs.AnswersLaws.{done_passes}
 use Rattle.state.specs.declared.Core.{Core}
 use Rattle.frame.specs.declared.Head.{Head}
 use Rattle.frame.specs.declared.Data.{Data}
@@ -29,11 +29,11 @@ from-unit c h e =
 pub asks-some : (c : Core) (f : Request) (x : ⊤) → ◌≡◌ {A = Answered ⊤} (judged (request_checks c f) tt) (Ok x) → 1 ≤ f.lseq
 unfolding asks_wrongly
 asks-some c f x e =
-    let wrong : asks_wrongly c f ≡ false = (ok_passes (request_checks c f) x e).1.1.1.1.0 in
+    let wrong : asks_wrongly c f ≡ false = (done_passes tt (request_checks c f) x e).1.1.1.1.0 in
     omega (arith, leb-false f.lseq (at f.head.ack c.me) (search (or_left, or_right)))
 
 pub short-data : (c : Core) (len room : ℕ) (x : ⊤) → ◌≡◌ {A = Answered ⊤} (judged (send_checks c len room) tt) (Ok x) → len ≤ 48
-short-data c len room x e = ltb-false 48 len (ok_passes (send_checks c len room) x e).0
+short-data c len room x e = ltb-false 48 len (done_passes tt (send_checks c len room) x e).0
 
 -- a frame's data are short
 abbrev short : Option Frame → Type 0

@@ -11,21 +11,23 @@ use state;
 use state::Core;
 use tables;
 
+#[tactic(auto, unfolding(crate::specs::Checks::names_other))]
 fn names_other(c: Core, f: Request) -> bool
     ensures { result ≡ names_other c f }
 {
     state::is_unit(c.n, f.lsrc) && f.lsrc != f.head.src
 }
 
+#[tactic(auto, unfolding(crate::specs::Checks::asks_wrongly))]
 fn asks_wrongly(c: Core, f: Request) -> bool
     ensures { result ≡ asks_wrongly c f }
 {
     let own = tables::at(&f.head.ack, c.me);
-    let not_sent = c.seq < own || c.seq < f.lseq;
-    not_sent || f.lseq <= own
+    c.seq < own || c.seq < f.lseq || f.lseq <= own
 }
 
 // The first number to resend.
+#[tactic(auto, unfolding(crate::specs::Checks::resend_from))]
 fn first(c: Core, f: Request) -> u32
     ensures { result ≡ resend_from c f }
 {
@@ -56,6 +58,7 @@ fn checks(c: Core, f: Request) -> Result<(), Refusal>
     Ok(())
 }
 
+#[tactic(auto, unfolding(crate::specs::Arrival::request_arrival))]
 pub fn arrived(c: Core, f: Request) -> Result<Arrival, Refusal>
     ensures { result ≡ request_arrival c f }
 {

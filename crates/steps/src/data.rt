@@ -13,14 +13,14 @@ use store::Accepting;
 use tables;
 
 // Whether f says what no unit of the group can have said.
+#[tactic(auto, unfolding(crate::specs::Checks::impossible))]
 fn cannot_be(c: Core, f: Data) -> bool
     requires { Ranged c × FromUnit c f.head }
     ensures { result ≡ impossible c f }
 {
     let ack = f.head.ack;
     let places = 4 * (c.w as u32) * (c.n as u32);
-    let misled = c.seq < tables::at(&ack, c.me) || tables::at(&ack, f.head.src as u8) != f.seq;
-    misled || places < f.buf
+    c.seq < tables::at(&ack, c.me) || tables::at(&ack, f.head.src as u8) != f.seq || places < f.buf
 }
 
 // Whether it is the sender's turn: the next of its messages, and none that it knew of is missing here.
@@ -64,20 +64,18 @@ fn checks(c: Core, f: Data) -> Result<(), Refusal>
 }
 
 // The numbers that f shows to be missing are noted.
+#[tactic(auto, unfolding(crate::specs::Arrival::noted_of))]
 fn noted(c: Core, f: Data) -> Core
     requires { Ranged c × FromUnit c f.head }
     ensures { result ≡ noted_of c f }
 {
-    let ack = f.head.ack;
-    let heard = c.heard;
-    let shown = tables::with(ack, f.head.src as u8, tables::next(f.seq));
-    let more = tables::raised_to(heard, shown, c.n);
-    let mut d = c;
-    d.heard = more;
-    d
+    let shown = tables::with(f.head.ack, f.head.src as u8, tables::next(f.seq));
+    let heard = tables::raised_to(c.heard, shown, c.n);
+    Core { heard, ..c }
 }
 
 // The message of f is stored at the first free place.
+#[tactic(auto, unfolding(crate::specs::Arrival::storing))]
 fn stored(c: Core, f: Data) -> (Core, Result<Arrival, Refusal>)
     requires { (Ranged c × FromUnit c f.head) × (f.len < 256) }
     ensures { result ≡ storing c f }
@@ -107,6 +105,7 @@ fn notes(r: Refusal) -> bool
 }
 
 // The data come from a unit of the group.
+#[tactic(auto, unfolding(crate::specs::Arrival::unit_arrival))]
 fn from_unit(c: Core, f: Data) -> (Core, Result<Arrival, Refusal>)
     requires { (Ranged c × FromUnit c f.head) × (f.len < 256) }
     ensures { result ≡ unit_arrival c f }
@@ -117,6 +116,7 @@ fn from_unit(c: Core, f: Data) -> (Core, Result<Arrival, Refusal>)
     }
 }
 
+#[tactic(auto, unfolding(crate::specs::Arrival::data_arrival))]
 pub fn arrived(c: Core, f: Data) -> (Core, Result<Arrival, Refusal>)
     requires { Ranged c × (f.len < 256) }
     ensures { result ≡ data_arrival c f }

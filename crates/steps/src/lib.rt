@@ -53,6 +53,7 @@ pub struct Sending {
 }
 
 // Whether a frame is of this group: n ACKs, and a sender that is a unit.
+#[tactic(auto, unfolding(crate::specs::Checks::of_group))]
 fn of_group(c: Core, h: Head) -> bool
     ensures { result ≡ of_group c h }
 {
@@ -60,6 +61,7 @@ fn of_group(c: Core, h: Head) -> bool
 }
 
 // The bytes s arrive: the unit's next numbers, which a refusal changes in HEARD at most, and what the arrival was.
+#[tactic(auto, unfolding(crate::specs::Arrival::arrival_of, crate::specs::Arrival::frame_arrival))]
 pub fn arrive<'a>(c: Core, acks: &'a [u32], s: &'a [u8]) -> (Core, Result<Arrival, Refusal>)
     ensures { result ≡ arrival_of c acks.now (decode s.now) }
 {
@@ -74,6 +76,7 @@ pub fn arrive<'a>(c: Core, acks: &'a [u32], s: &'a [u8]) -> (Core, Result<Arriva
 }
 
 // Data of len bytes are sent, with room bytes of output.
+#[tactic(auto, unfolding(crate::specs::Sending::sending_of))]
 pub fn send(c: Core, acks: &[u32], len: usize, room: usize) -> Result<Sending, Refusal>
     ensures { result ≡ sending_of c acks.now len room }
 {

@@ -13,6 +13,7 @@ use store::Accepting;
 use tables;
 
 // SEQ is inside the window; the sum may pass 32 bits.
+#[tactic(auto, unfolding(crate::specs::Checks::window_open))]
 fn window_open(c: Core) -> bool
     requires { Ranged c }
     ensures { result ≡ window_open c }
@@ -45,6 +46,7 @@ fn checks(c: Core, len: usize, room: usize) -> Result<(), Refusal>
 }
 
 // The frame is kept, and its message stored at the first free place.
+#[tactic(auto, unfolding(crate::specs::Sending::sending_own, crate::specs::Sending::frame_length))]
 fn kept(c: Core, len: usize) -> Sending
     requires { Ranged c × (len ≤ 48) }
     ensures { result ≡ sending_own c len }
@@ -70,6 +72,7 @@ fn kept(c: Core, len: usize) -> Sending
     }
 }
 
+#[tactic(auto, unfolding(crate::specs::Sending::sending_checked))]
 pub fn checked(c: Core, len: usize, room: usize) -> Result<Sending, Refusal>
     requires { Ranged c }
     ensures { result ≡ sending_checked c len room }

@@ -7,6 +7,7 @@ use lists;
 use state::Core;
 
 // The first free place of sender j.
+#[tactic(auto, unfolding(crate::specs::Arrival::free_place))]
 pub fn first_free(c: Core, j: u8) -> u8
     requires { (c.w ≤ 4) × ((1 ≤ j) × (j ≤ 8)) }
     ensures { result ≡ free_place c j }
@@ -16,6 +17,7 @@ pub fn first_free(c: Core, j: u8) -> u8
 }
 
 // Sender j has no free place.
+#[tactic(auto, unfolding(crate::specs::Checks::no_place))]
 pub fn none_free(c: Core, j: u8) -> bool
     ensures { result ≡ no_place c j }
 {

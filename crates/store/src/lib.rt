@@ -28,104 +28,94 @@ pub struct Next {
 }
 
 // The slot of the frame to keep next.
+#[tactic(auto, unfolding(crate::specs::Store::kept_slot))]
 pub fn kept_slot(c: Core) -> u32
     ensures { result ≡ kept_slot c }
 {
-    tables::above(c.seq, own_low(&c.al, c.me, c.n))
+    c.seq.saturating_sub(own_low(&c.al, c.me, c.n))
 }
 
 // With column j of AL; kept lengths start at minAL of the own index.
+#[tactic(auto, unfolding(crate::specs::Store::column_stored))]
 fn column_stored(c: Core, j: u8, ack: [u32; 8]) -> Next
     ensures { result ≡ column_stored c j ack }
 {
-    let al = c.al;
-    let old = own_low(&al, c.me, c.n);
-    let new = tables::with_column(al, j, &ack);
-    let gone = tables::above(own_low(&new, c.me, c.n), old);
+    let old = own_low(&c.al, c.me, c.n);
+    let al = tables::with_column(c.al, j, &ack);
+    let gone = own_low(&al, c.me, c.n).saturating_sub(old);
     let mut kept = c.kept;
     arrays::move_down(&mut kept, gone as usize);
-    let mut d = c;
-    d.al = new;
-    d.kept = kept;
-    Next { gone, core: d }
+    let core = Core { al, kept, ..c };
+    Next { gone, core }
 }
 
 // With REQ_j, BUF_j and HEARD_j.
+#[tactic(auto, unfolding(crate::specs::Store::numbers_stored))]
 fn numbers_stored(c: Core, j: u8, next: u32, buf: u32) -> Core
     ensures { result ≡ numbers_stored c j next buf }
 {
-    let req = c.req;
-    let bufs = c.buf;
-    let heard = c.heard;
-    let r = tables::with(req, j, next);
-    let b = tables::with(bufs, j, buf);
-    let h = tables::with(heard, j, tables::larger(tables::at(&heard, j), next));
-    let mut d = c;
-    d.req = r;
-    d.buf = b;
-    d.heard = h;
-    d
+    Core {
+        req: tables::with(c.req, j, next),
+        heard: tables::with(c.heard, j, tables::at(&c.heard, j).max(next)),
+        buf: tables::with(c.buf, j, buf),
+        ..c
+    }
 }
 
 // With number and data length of the message at the place, which waits behind all others.
+#[tactic(auto, unfolding(crate::specs::Store::place_stored))]
 fn place_stored(c: Core, place: u8, seq: u32, len: u8) -> Core
     ensures { result ≡ place_stored c place seq len }
 {
     let mut seqs = c.seqs;
     let mut lens = c.lens;
-    let order = c.order;
     let p = place as usize;
     if p < 128 {
         seqs[p] = seq;
         lens[p] = len;
     }
-    let longer = lists::with_last(order, place);
-    let mut d = c;
-    d.seqs = seqs;
-    d.lens = lens;
-    d.order = longer;
-    d
+    let order = lists::with_last(c.order, place);
+    Core {
+        seqs,
+        lens,
+        order,
+        ..c
+    }
 }
 
 // Accepts a message.
+#[tactic(auto, unfolding(crate::specs::Store::stored_of))]
 pub fn stored(c: Core, m: Accepting) -> Next
     ensures { result ≡ stored_of c m }
 {
     let j = m.place / 16 + 1;
-    let ack = m.ack;
-    let s = column_stored(c, j, ack);
-    let d = s.core;
-    let e = numbers_stored(d, j, tables::next(m.seq), m.buf);
-    let f = place_stored(e, m.place, m.seq, m.len);
+    let s = column_stored(c, j, m.ack);
+    let e = numbers_stored(s.core, j, tables::next(m.seq), m.buf);
     Next {
-        gone: s.gone,
-        core: f,
+        core: place_stored(e, m.place, m.seq, m.len),
+        ..s
     }
 }
 
 // Keeps a frame of this length.
+#[tactic(auto, unfolding(crate::specs::Store::keeping_of))]
 pub fn keeping(c: Core, len: u8) -> Core
     ensures { result ≡ keeping_of c len }
 {
     let at = kept_slot(c) as usize;
-    let next = tables::next(c.seq);
+    let seq = tables::next(c.seq);
     let mut kept = c.kept;
     if at < 4 {
         kept[at] = len;
     }
-    let mut d = c;
-    d.seq = next;
-    d.kept = kept;
-    d
+    Core { seq, kept, ..c }
 }
 
 // Pre-acknowledges and confirms what can be.
+#[tactic(auto, unfolding(crate::specs::Store::settled_of))]
 pub fn settled(c: Core, acks: &[u32]) -> Core
     ensures { result ≡ settled_of c acks.now }
 {
-    let order = c.order;
-    let o = lists::settled(order, &c.al, &c.seqs, acks, c.n);
-    let mut d = c;
-    d.order = o;
-    d
+    let order = lists::settled(c.order, &c.al, &c.seqs, acks, c.n);
+    Core { order, ..c }
 }

@@ -3,4 +3,5 @@ pub mod EveryLaws
 pub mod FillLaws
 pub mod GridLaws
 pub mod ListedLaws
+pub mod PutLaws
 pub mod RowLaws

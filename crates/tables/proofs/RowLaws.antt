@@ -2,7 +2,7 @@
 use mathlib.Core.Logic.{◌≢◌}
 use mathlib.Core.Path.{◌≡◌, refl, ap}
 use mathlib.Core.List.{List}
-use Prim.Native.Nat.{ℕ, zero, suc, ◌+◌, ◌-◌, ◌≤◌, min, max}
+use Prim.Native.Nat.{ℕ, zero, suc, ◌+◌, ◌-◌, min}
 use native.Mathlib.Omega.{arith}
 use native.Mathlib.Numerals.{add-one}
 use lib.ListN.{get_or}
@@ -15,17 +15,5 @@ pub at_before : (a : List ℕ) (k : ℕ) → k ≢ 0 → get_or a (k - 1) 0 ≡ 
 at_before a zero h = absurd (h refl)
 at_before a (suc k) h = ap (λ (i : ℕ). get_or a i 0) (let e : suc k - 1 ≡ k = omega arith in e)
 
-pub least-one : (a : List ℕ) (m : ℕ) → m ≡ get_or a 0 0 → m ≡ least 1 (at a)
-least-one a m e = omega arith
-
 pub least_more : (a : List ℕ) (k m x y : ℕ) → m ≡ least k (at a) → x ≡ get_or a k 0 → y ≡ min m x → y ≡ least (k + 1) (at a)
 least_more a k m x y em ex ey = rw (add-one k) (omega arith)
-
-pub least-end : (a : List ℕ) (k n : ℕ) → n ≤ k → k ≤ max n 1 → least k (at a) ≡ least n (at a)
-least-end a k zero p q = go k q
-  where
-    go : (k : ℕ) → k ≤ 1 → least k (at a) ≡ least 0 (at a)
-    go zero q = refl
-    go (suc zero) q = omega arith
-    go (suc (suc k)) q = absurd (omega arith)
-least-end a k (suc n) p q = ap (λ i. least i (at a)) (let e : k ≡ suc n = omega arith in e)

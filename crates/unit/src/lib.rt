@@ -4,16 +4,18 @@
 ghost use Rattle.rules.specs.Looks as rules;
 ghost use Rattle.handing.specs.Looks.{to_take_in, free_places_in, kept_numbers_in, missing_in, waiting_in};
 ghost use Rattle.unit.specs.View.{view};
-ghost use Rattle.unit.specs.CallContracts.{Opens, Sends, Arrives, Asks, Copies, Takes, Looks, Tests};
+ghost use Rattle.unit.specs.CallContracts.{Opens, Sends, Arrives, Asks, Copies, Takes, Counts, Shows, Tests};
 
+use answers::Refusal;
 use frame;
 use framewrite;
 use handing;
-use handing::looks::Look;
-use handing::{Handed, looks};
+use handing::looks;
+use handing::looks::Numbers;
 use state;
 use state::{Core, Opening};
 use steps;
+use steps::{Arrival, Resend};
 use store;
 use store::arrays;
 
@@ -26,39 +28,19 @@ pub struct Unit {
     pub frames: [u8; Unit::MOST_WINDOW * Unit::MOST_FRAME],
 }
 
-// With 0 the unit; with 2 the closed unit, all numbers 0.
-#[derive(Clone, Copy)]
-pub struct Opened {
-    pub answer: u32,
-    pub unit: Unit,
-}
-
-// Number and length of the frame that was sent, 0 with a refusal, and the next unit.
+// Number and length of the frame that was sent.
 #[derive(Clone, Copy)]
 pub struct Sent {
-    pub answer: u32,
     pub seq: u32,
     pub len: usize,
-    pub unit: Unit,
 }
 
-// First and last number to resend, where a request was answered, and the next unit.
-#[derive(Clone, Copy)]
-pub struct Arrived {
-    pub answer: u32,
-    pub first: u32,
-    pub last: u32,
-    pub unit: Unit,
-}
-
-// Sender, number and data length of the message taken, 0 with a refusal, and the next unit.
+// Sender, number and data length of the message taken.
 #[derive(Clone, Copy)]
 pub struct Taken {
-    pub answer: u32,
     pub src: u8,
     pub seq: u32,
     pub len: usize,
-    pub unit: Unit,
 }
 
 impl Unit {
@@ -81,89 +63,76 @@ impl Unit {
     // Bytes of a frame.
     pub const MOST_FRAME: usize = 37 + 4 * Self::MOST_UNITS + Self::MOST_DATA;
 
-    // Opens a unit. Refusal: 2.
-    pub fn open(o: Opening) -> Opened
+    // Opens a unit; refused, it is closed, all numbers 0. Refusal: 2.
+    pub fn open(o: Opening) -> (Unit, Result<(), Refusal>)
         ensures { Opens o result }
     {
-        let f = state::opened_with(o);
-        let core = f.core;
-        Opened {
-            answer: f.answer,
-            unit: Unit {
-                core,
-                acks: [0u32; Self::PLACES * Self::MOST_UNITS],
-                bytes: [0u8; Self::PLACES * Self::MOST_DATA],
-                frames: [0u8; Self::MOST_WINDOW * Self::MOST_FRAME],
-            },
-        }
+        let (core, opened) = state::opened_with(o);
+        let unit = Unit {
+            core,
+            acks: [0u32; Self::PLACES * Self::MOST_UNITS],
+            bytes: [0u8; Self::PLACES * Self::MOST_DATA],
+            frames: [0u8; Self::MOST_WINDOW * Self::MOST_FRAME],
+        };
+        (unit, opened)
     }
 
     // Sends the data: the frame stands at the front of the output. Refusals: 1, 13, 14, 15, 12, 16.
-    pub fn send(mut self, text: &[u8], out: &mut [u8]) -> Sent
+    pub fn send(mut self, text: &[u8], out: &mut [u8]) -> (Unit, Result<Sent, Refusal>)
         ensures { Sends self text.now out.old result out.new }
     {
         let c = self.core;
-        let s = steps::send(c, &self.acks, text.len(), out.len());
-        if s.answer != 0 {
-            return Sent {
-                answer: s.answer,
-                seq: 0,
-                len: 0,
-                unit: self,
-            };
-        }
-        let len = 37 + 4 * (c.n as usize) + text.len();
-        let req = c.req;
-        framewrite::write_data(out, c.cid, c.me, c.seq, &req, c.n as usize, s.buf, text);
-        arrays::put_frame(&mut self.frames, s.slot, &out[..len]);
-        arrays::drop_frames(&mut self.frames, s.gone);
-        arrays::put_ack(&mut self.acks, s.place, req);
-        arrays::put_text(&mut self.bytes, s.place, text);
-        let stored = s.core;
-        let settled = store::settled(stored, &self.acks);
-        self.core = settled;
-        Sent {
-            answer: 0,
-            seq: c.seq,
-            len,
-            unit: self,
+        match steps::send(c, &self.acks, text.len(), out.len()) {
+            Err(refusal) => (self, Err(refusal)),
+            Ok(s) => {
+                let req = c.req;
+                let n = c.n as usize;
+                let len = framewrite::write_data(
+                    out, c.cid, c.me, c.seq, &req, n, s.buf, text,
+                ).unwrap();
+                arrays::put_frame(&mut self.frames, s.slot, &out[..len]);
+                arrays::drop_frames(&mut self.frames, s.gone);
+                arrays::put_ack(&mut self.acks, s.place, req);
+                arrays::put_text(&mut self.bytes, s.place, text);
+                self.core = store::settled(s.core, &self.acks);
+                (self, Ok(Sent { seq: c.seq, len }))
+            }
         }
     }
 
-    // A frame of either kind arrives. Refusals, data: 1, 3, 4, 5, 6, 7, 8, 9, 10, 11, 12; request: 1, 3, 4, 5, 6, 17, 7, 18.
-    pub fn arrive(mut self, s: &[u8]) -> Arrived
+    // A frame of either kind arrives; for a request, the numbers to resend come back. Refusals, data: 1, 3, 4, 5, 6, 7, 8,
+    // 9, 10, 11, 12; request: 1, 3, 4, 5, 6, 17, 7, 18.
+    pub fn arrive(mut self, s: &[u8]) -> (Unit, Result<Option<Resend>, Refusal>)
         ensures { Arrives self s.now result }
     {
-        let c = self.core;
-        let a = steps::arrive(c, &self.acks, s);
-        let next = a.core;
+        let (next, arrived) = steps::arrive(self.core, &self.acks, s);
         self.core = next;
-        if a.stores {
-            let ack = a.ack;
-            arrays::put_ack(&mut self.acks, a.place, ack);
-            arrays::put_text(&mut self.bytes, a.place, frame::payload(s));
-            arrays::drop_frames(&mut self.frames, a.gone);
-            let settled = store::settled(next, &self.acks);
-            self.core = settled;
-        }
-        Arrived {
-            answer: a.answer,
-            first: a.first,
-            last: a.last,
-            unit: self,
+        let arrival = match arrived {
+            Err(refusal) => return (self, Err(refusal)),
+            Ok(arrival) => arrival,
+        };
+        match arrival {
+            Arrival::Asked(resend) => (self, Ok(Some(resend))),
+            Arrival::Accepted(a) => {
+                arrays::put_ack(&mut self.acks, a.place, a.ack);
+                arrays::put_text(&mut self.bytes, a.place, frame::payload(s));
+                arrays::drop_frames(&mut self.frames, a.gone);
+                self.core = store::settled(next, &self.acks);
+                (self, Ok(None))
+            }
         }
     }
 
-    // Makes the request for what is missing of unit k. Refusals: 1, 5, 18, 16.
-    pub fn request(self, k: u8, out: &mut [u8]) -> Handed
+    // Makes the request for what is missing of unit k, and gives its length. Refusals: 1, 5, 18, 16.
+    pub fn request(self, k: u8, out: &mut [u8]) -> Result<usize, Refusal>
         ensures { Asks self k out.old result out.new }
     {
         let c = self.core;
         handing::asking(c, &self.acks, k, out)
     }
 
-    // Copies out the kept frame of number x, exactly as first sent. Refusals: 1, 18, 16.
-    pub fn copy(self, x: u32, out: &mut [u8]) -> Handed
+    // Copies out the kept frame of number x, exactly as first sent, and gives its length. Refusals: 1, 18, 16.
+    pub fn copy(self, x: u32, out: &mut [u8]) -> Result<usize, Refusal>
         ensures { Copies self x out.old result out.new }
     {
         let c = self.core;
@@ -171,57 +140,59 @@ impl Unit {
     }
 
     // Takes the oldest confirmed message: its data stand at the front of the output. Refusals: 1, 18, 16.
-    pub fn take(mut self, out: &mut [u8]) -> Taken
+    pub fn take(mut self, out: &mut [u8]) -> (Unit, Result<Taken, Refusal>)
         ensures { Takes self out.old result out.new }
     {
         let c = self.core;
-        let t = handing::taking(c, &self.acks, &self.bytes, out);
-        let rest = t.core;
-        self.core = rest;
-        Taken {
-            answer: t.answer,
-            src: t.src,
-            seq: t.seq,
-            len: t.len,
-            unit: self,
+        match handing::taking(c, &self.acks, &self.bytes, out) {
+            Err(refusal) => (self, Err(refusal)),
+            Ok(t) => {
+                self.core = t.core;
+                let taken = Taken {
+                    src: t.src,
+                    seq: t.seq,
+                    len: t.len,
+                };
+                (self, Ok(taken))
+            }
         }
     }
 
-    // How many messages can be taken. Looks answer 1 where the unit is not sound, and 5 where k is no unit.
-    pub fn to_take(self) -> Look
-        ensures { Looks (to_take_in self.core self.acks) (rules.to_take (view self)) result }
+    // How many messages can be taken. Looks refuse with 1 where the unit is not sound, and with 5 where k is no unit.
+    pub fn to_take(self) -> Result<usize, Refusal>
+        ensures { Counts (to_take_in self.core self.acks) (rules.to_take (view self)) result }
     {
         let c = self.core;
         looks::to_take(c, &self.acks)
     }
 
     // How many places are free.
-    pub fn free_places(self) -> Look
-        ensures { Looks (free_places_in self.core self.acks) (rules.free_places (view self)) result }
+    pub fn free_places(self) -> Result<usize, Refusal>
+        ensures { Counts (free_places_in self.core self.acks) (rules.free_places (view self)) result }
     {
         let c = self.core;
         looks::free_places(c, &self.acks)
     }
 
     // The kept numbers.
-    pub fn kept_numbers(self) -> Look
-        ensures { Looks (kept_numbers_in self.core self.acks) (rules.kept_numbers (view self)) result }
+    pub fn kept_numbers(self) -> Result<Numbers, Refusal>
+        ensures { Shows (kept_numbers_in self.core self.acks) (rules.kept_numbers (view self)) result }
     {
         let c = self.core;
         looks::kept_numbers(c, &self.acks)
     }
 
     // The missing numbers of unit k.
-    pub fn missing_of(self, k: u8) -> Look
-        ensures { Looks (missing_in self.core self.acks k) (rules.missing_of (view self) k) result }
+    pub fn missing_of(self, k: u8) -> Result<Numbers, Refusal>
+        ensures { Shows (missing_in self.core self.acks k) (rules.missing_of (view self) k) result }
     {
         let c = self.core;
         looks::missing_of(c, &self.acks, k)
     }
 
     // How many of unit k's messages wait.
-    pub fn waiting_of(self, k: u8) -> Look
-        ensures { Looks (waiting_in self.core self.acks k) (rules.waiting_of (view self) k) result }
+    pub fn waiting_of(self, k: u8) -> Result<usize, Refusal>
+        ensures { Counts (waiting_in self.core self.acks k) (rules.waiting_of (view self) k) result }
     {
         let c = self.core;
         looks::waiting_of(c, &self.acks, k)

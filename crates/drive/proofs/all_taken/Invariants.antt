@@ -1,12 +1,10 @@
 -- `all_taken` meets its contract: the take at hand and all that may follow it give the whole sum.
 use mathlib.Core.Path.{◌≡◌}
+use Prim.Native.Nat.{◌-◌}
 use lib.ListN.{length}
 use Rattle.drive.specs.Run.{all_taken}
 use Rattle.drive.proofs.all_taken.Given as goal
 
-abbrev pub invariant-loop-left : goal.invariant-loop-left
-invariant-loop-left l =
-    (length l.out ≡ 16) × (all_taken l.left (record { result = l.t; output = l.out }) l.sum ≡ all_taken l.initial.left (record { result = l.initial.t; output = l.initial.out }) l.initial.sum)
-
-abbrev pub decreases-loop-left : goal.decreases-loop-left
-decreases-loop-left l = l.left
+abbrev pub invariant-loop-count : goal.invariant-loop-count
+invariant-loop-count l =
+    (length l.out ≡ 16) × (all_taken (128 - l.count) (record { result = l.t; output = l.out }) l.sum ≡ all_taken 128 (record { result = l.initial.t; output = l.initial.out }) l.initial.sum)

@@ -16,10 +16,6 @@ loop-i-init c =
     let e = c.opened-units.ensures in
     ((omega arith, (ap length e, (refl, refl))), group-opened c.args.n c.args.w c.opened-units.result e)
 
-pub overflow_add-i : goal.overflow_add-i
-overflow_add-i c =
-    record { fits = omega (arith, mul-le-mul_left c.args.messages c.requires.1) }
-
 pub loop-i-preserved : goal.loop-i-preserved
 loop-i-preserved c =
     let l = c.loop-i in

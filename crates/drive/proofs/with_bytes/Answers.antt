@@ -1,13 +1,12 @@
-use native.Mathlib.Omega.{arith}
-use mathlib.Core.Path.{sym, ◌∙◌}
-use Rattle.drive.proofs.Sums.{bytes-more, bytes-all}
+-- `with_bytes` meets its contract: the fold of the sum over the bytes is what the definition says.
+use borrow.Author.Rules.{rules}
+use mathlib.Core.Path.{◌≡◌, ◌∙◌}
+use Rattle.std.specs.Prelude.{fold}
+use Rattle.drive.specs.Run.{mixed}
+use Rattle.drive.proofs.Sums.{bytes_fold}
 use Rattle.drive.proofs.with_bytes.Goals as goal
-
-pub loop-i-preserved : goal.loop-i-preserved
-loop-i-preserved c =
-    let s = c.args.s.now in
-    (omega arith, rw c.mixed-sum.ensures (sym (bytes-more c.loop-i.sum s c.loop-i.i (omega arith)) ∙ c.loop-i.invariant.1))
 
 pub returns : goal.returns
 returns c =
-    sym (bytes-all c.loop-i.sum c.args.s.now c.loop-i.i (omega arith)) ∙ c.loop-i.invariant.1
+    let folded : c.fold.result ≡ fold mixed c.args.before c.args.s.now = search rules in
+    folded ∙ bytes_fold c.args.before c.args.s.now

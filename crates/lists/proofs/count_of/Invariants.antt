@@ -8,6 +8,3 @@ use Rattle.lists.proofs.count_of.Given as goal
 
 abbrev pub invariant-loop-q : goal.invariant-loop-q
 invariant-loop-q l = (l.m ≤ l.q) × (l.m + length (only (is_of l.j) (listed l.q (l.end - l.q) (entry l.o))) ≡ length (only (is_of l.j) (listed l.start (l.end - l.start) (entry l.o))))
-
-abbrev pub decreases-loop-q : goal.decreases-loop-q
-decreases-loop-q l = l.end - l.q

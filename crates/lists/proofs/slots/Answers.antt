@@ -17,21 +17,21 @@ pub loop-q-init : goal.loop-q-init
 unfolding slots_of
 loop-q-init c =
     let s = c.args in
-    let e : c.taken-end.result - 0 ≡ total s.o = omega arith in
+    let e : c.taken-q-end.result - 0 ≡ total s.o = omega arith in
     (search rules, ap (λ (i : ℕ). marked (replicate 16 false) (slots_in s.j (listed 0 i (entry s.o)))) e)
 
 pub loop-q-preserved : goal.loop-q-preserved
 loop-q-preserved c =
     let s = c.args in
     let k = c.loop-q.q in
-    let end = c.taken-end.result in
+    let end = c.taken-q-end.result in
     let in-loop = c.loop-q-test.true in (
       search rules,
       elim c.if-p-j.branch [
         | then-p-j w ↦
             let e : sender_of (entry s.o k) ≡ s.j = omega arith in
             ap (λ (m : List Bool). marked m (slots_in s.j (listed (k + 1) (end - (k + 1)) (entry s.o))))
-            (w.marks-is ∙ ap (λ (p : ℕ). set c.loop-q.marks (slot_of p) true) c.byte-p.ensures)
+            (w.marks-is ∙ ap (λ (p : ℕ). set c.loop-q.marks (slot_of p) true) c.get_or-p.ensures)
             ∙ sym (ap (λ (l : List ℕ). marked c.loop-q.marks (map slot_of l)) (only-more (is_of s.j) (entry s.o) k end in-loop (eq-eqb _ _ e)))
             ∙ c.loop-q.invariant.1
         | else-p-j w ↦
@@ -45,5 +45,5 @@ loop-q-preserved c =
 pub returns : goal.returns
 returns c =
     let s = c.args in
-    let e : c.taken-end.result - c.loop-q.q ≡ 0 = omega arith in
+    let e : c.taken-q-end.result - c.loop-q.q ≡ 0 = omega arith in
     sym (ap (λ (i : ℕ). marked c.loop-q.marks (slots_in s.j (listed c.loop-q.q i (entry s.o)))) e) ∙ c.loop-q.invariant.1

@@ -14,7 +14,7 @@ loop-i-preserved c =
     let a = c.args in
     let long : 208 * l.i + 208 - 208 * l.i ≡ 208 = omega arith in
     let more =
-    one-run a.before a.input.now a.out.now l.i l.units l.out l.invariant.1
+    one-run a.units.now a.input.now a.out.now l.i l.units l.out l.invariant.1
     (c.byte.result % 8) (ap (λ x. x % 8) c.byte.ensures) (omega arith) _ _ _ (rw long at c.answered-next.ensures) in
     ((omega arith, (search rules, search rules)), more)
 
@@ -22,4 +22,4 @@ pub returns : goal.returns
 returns c =
     let l = c.loop-i in
     let a = c.args in
-    all-run a.before a.input.now a.out.now l.i a.records l.units l.out l.invariant.1 (omega arith)
+    all-run a.units.now a.input.now a.out.now l.i a.records l.units l.out l.invariant.1 (omega arith)

@@ -2,7 +2,7 @@
 use mathlib.Core.Path.{◌≡◌}
 use mathlib.Core.Bool.{Bool, true, cond}
 use mathlib.Core.List.{List}
-use Prim.Native.Nat.{ℕ, ◌+◌, ◌-◌, ◌≤◌}
+use Prim.Native.Nat.{ℕ, ◌+◌, ◌-◌}
 use lib.Dec.{eqb, leb}
 use Rattle.rules.specs.Maps.{at, every}
 use Rattle.tables.specs.Rows.{below_but}
@@ -12,7 +12,4 @@ abbrev pub kept : ℕ → List ℕ → List ℕ → ℕ → Bool
 kept j a limits i = cond (eqb i j) true (leb (at a i) (at limits i))
 
 abbrev pub invariant-loop-k : goal.invariant-loop-k
-invariant-loop-k l = (l.k ≤ l.n) × (every (l.k + 1) (l.n - l.k) (kept l.j l.a l.limits) ≡ below_but l.n l.j (at l.a) (at l.limits))
-
-abbrev pub decreases-loop-k : goal.decreases-loop-k
-decreases-loop-k l = l.n - l.k
+invariant-loop-k l = every (l.k + 1) (l.n - l.k) (kept l.j l.a l.limits) ≡ below_but l.n l.j (at l.a) (at l.limits)

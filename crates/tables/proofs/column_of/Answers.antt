@@ -2,23 +2,12 @@ use mathlib.Core.List.{List}
 use mathlib.Core.Path.{ap, ◌∙◌}
 use Prim.Native.Nat.{ℕ}
 use native.Mathlib.Omega.{arith}
-use borrow.Author.Rules.{rules}
 use Rattle.rules.specs.Maps.{at}
-use Rattle.tables.specs.Rows.{column_of}
-use Rattle.tables.proofs.FillLaws.{filled-set, filled-end}
+use Rattle.tables.proofs.FillLaws.{filled-set}
 use Rattle.tables.proofs.column_of.Invariants.{cell}
 use Rattle.tables.proofs.column_of.Goals as goal
 
 pub loop-k-preserved : goal.loop-k-preserved
 loop-k-preserved c =
     let s = c.args in
-    let k = c.loop-k.k in (
-      search rules,
-      filled-set _ (cell s.t.now s.j) k _ (omega arith) (c.at.ensures ∙ ap (λ (l : List ℕ). at l s.j) c.tail.ensures) c.loop-k.invariant.1,
-    )
-
-pub returns : goal.returns
-unfolding column_of
-returns c =
-    let s = c.args in
-    filled-end _ (cell s.t.now s.j) 8 c.loop-k.k (omega arith) (omega arith) c.loop-k.invariant.1
+    filled-set _ (cell s.t.now s.j) c.loop-k.k _ (omega arith) (c.at.ensures ∙ ap (λ (l : List ℕ). at l s.j) c.tail.ensures) c.loop-k.invariant

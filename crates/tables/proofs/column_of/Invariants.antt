@@ -1,8 +1,8 @@
 -- After k turns the first k entries are cells of the column.
 use mathlib.Core.List.{List}
 use mathlib.Core.Path.{◌≡◌}
-use Prim.Native.Nat.{ℕ, ◌*◌, ◌-◌, ◌≤◌}
-use lib.ListN.{length, drop}
+use Prim.Native.Nat.{ℕ, ◌*◌}
+use lib.ListN.{drop}
 use Rattle.rules.specs.Maps.{at}
 use Rattle.tables.proofs.FillLaws.{filled}
 use Rattle.tables.proofs.column_of.Given as goal
@@ -11,7 +11,4 @@ abbrev pub cell : List ℕ → ℕ → ℕ → ℕ
 cell t j k = at (drop (8 * k) t) j
 
 abbrev pub invariant-loop-k : goal.invariant-loop-k
-invariant-loop-k l = ((l.k ≤ 8) × (length l.initial.a ≡ 8)) × (l.a ≡ filled l.initial.a (cell l.t l.j) l.k)
-
-abbrev pub decreases-loop-k : goal.decreases-loop-k
-decreases-loop-k l = 8 - l.k
+invariant-loop-k l = l.a ≡ filled l.initial.a (cell l.t l.j) l.k

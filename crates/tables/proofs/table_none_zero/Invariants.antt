@@ -2,7 +2,7 @@
 use mathlib.Core.Path.{◌≡◌}
 use mathlib.Core.Bool.{Bool}
 use mathlib.Core.List.{List}
-use Prim.Native.Nat.{ℕ, ◌+◌, ◌-◌, ◌≤◌}
+use Prim.Native.Nat.{ℕ, ◌+◌, ◌-◌}
 use Rattle.rules.specs.Maps.{at, every}
 use Rattle.tables.specs.Rows.{row_of, none_zero}
 use Rattle.tables.proofs.table_none_zero.Given as goal
@@ -11,7 +11,4 @@ abbrev pub full : ℕ → List ℕ → ℕ → Bool
 full n t k = none_zero n (at (row_of t k))
 
 abbrev pub invariant-loop-k : goal.invariant-loop-k
-invariant-loop-k l = (l.k ≤ l.n) × (every (l.k + 1) (l.n - l.k) (full l.n l.t) ≡ every 1 l.n (full l.n l.t))
-
-abbrev pub decreases-loop-k : goal.decreases-loop-k
-decreases-loop-k l = l.n - l.k
+invariant-loop-k l = every (l.k + 1) (l.n - l.k) (full l.n l.t) ≡ every 1 l.n (full l.n l.t)

@@ -2,9 +2,9 @@
 use mathlib.Core.Bool.{cond}
 use mathlib.Core.List.{List}
 use mathlib.Core.Path.{◌≡◌}
-use Prim.Native.Nat.{ℕ, ◌+◌, ◌-◌, ◌/◌, ◌%◌, ◌≤◌}
+use Prim.Native.Nat.{ℕ, ◌+◌, ◌/◌, ◌%◌}
 use lib.Dec.{eqb}
-use lib.ListN.{length, get_or}
+use lib.ListN.{get_or}
 use Rattle.tables.proofs.FillLaws.{filled}
 use Rattle.tables.proofs.with_column.Given as goal
 
@@ -12,7 +12,4 @@ abbrev pub cell : List ℕ → ℕ → List ℕ → ℕ → ℕ
 cell t j v q = cond (eqb (q % 8 + 1) j) (get_or v (q / 8) 0) (get_or t q 0)
 
 abbrev pub invariant-loop-q : goal.invariant-loop-q
-invariant-loop-q l = ((l.q ≤ 64) × (length l.initial.b ≡ 64)) × (l.b ≡ filled l.initial.b (cell l.initial.b l.j l.v) l.q)
-
-abbrev pub decreases-loop-q : goal.decreases-loop-q
-decreases-loop-q l = 64 - l.q
+invariant-loop-q l = l.b ≡ filled l.initial.b (cell l.initial.b l.j l.v) l.q

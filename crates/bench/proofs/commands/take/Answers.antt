@@ -1,42 +1,20 @@
--- `commands::take` meets its contract: a refusal prints its answer, a message its sender, number and word.
-use Prim.Native.Nat.{◌≤◌}
-use mathlib.Core.Path.{refl, sym}
-use native.Mathlib.Omega.{arith}
-use mathlib.Core.Path.{◌≡◌}
+-- `commands::take` meets its contract: a refusal gives its answer, a message its sender, number and word.
+use mathlib.Core.Path.{◌≡◌, refl}
 use lib.ListN.{length}
-use lib.Seq.{length-take-le}
 use borrow.Author.Rules.{rules}
-use Rattle.script.specs.Desk.{lent}
-use Rattle.bench.proofs.Shape.{shaped}
-use Rattle.bench.proofs.LengthLaws.{taken-len}
 use Rattle.bench.proofs.ActLaws.{did-acts, refused_did, took-did}
-use Rattle.bench.proofs.PrintLaws.{answer-short, taken-short}
 use Rattle.bench.proofs.commands.take.Goals as goal
 
 pub returns-then-t-ne0 : goal.returns-then-t-ne0
 returns-then-t-ne0 c =
-    let d = c.args.d in
+    let d = c.args.d.now in
     let t = c.take-t in
-    did-acts {line = c.args.line}
-    (refused_did d c.args.u c.requires.0 (shaped d _ c.well_formed.0.1.1).units t.result _ t.ensures c.if-t-ne0.true) refl
-    (answer-short c.args.line t.result.answer (search rules) (search rules)) c.requires.1 c.answer_line.ensures
-
-pub slice_bounds-word-end : goal.slice_bounds-word-end
-slice_bounds-word-end c =
-    let short : c.take-t.result.len ≤ 48 = rw c.take-t.ensures.exact (taken-len _ (lent 48)) in
-    search rules
-
-pub slice_bounds-taken_line-end : goal.slice_bounds-taken_line-end
-slice_bounds-taken_line-end c =
-    let short : c.take-t.result.len ≤ 48 = rw c.take-t.ensures.exact (taken-len _ (lent 48)) in
-    let long : length c.take-t.new.out ≡ 48 = search rules in
-    sym (length-take-le _ _ (omega arith))
+    let units : length d.units ≡ 3 = search rules in
+    did-acts (refused_did d c.args.u c.requires units t.result _ t.ensures c.if-t-ne0.true) refl refl
 
 pub returns : goal.returns
 returns c =
-    let d = c.args.d in
+    let d = c.args.d.now in
     let t = c.take-t in
-    did-acts {line = c.args.line}
-    (took-did d c.args.u c.requires.0 (shaped d _ c.well_formed.0.1.1).units t.result _ t.ensures c.if-t-ne0.false) refl
-    (taken-short c.args.line t.result.src t.result.seq t.result.len _ (search rules) (search rules) (search rules) (rw c.take-t.ensures.exact (taken-len _ (lent 48))))
-    c.requires.1 c.taken_line.ensures
+    let units : length d.units ≡ 3 = search rules in
+    did-acts (took-did d c.args.u c.requires units t.result _ t.ensures c.if-t-ne0.false) refl refl

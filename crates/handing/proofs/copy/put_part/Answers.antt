@@ -12,8 +12,8 @@ loop-i-init c = ((omega arith, refl), refl)
 pub loop-i-preserved : goal.loop-i-preserved
 loop-i-preserved c =
     let a = c.args in (
-      (omega arith, length-set c.loop-i.out c.loop-i.i c.byte.result ∙ c.loop-i.invariant.0.1),
-      filled-set a.out.now (λ k. get_or a.list.now (a.start + k) 0) c.loop-i.i c.byte.result (omega arith) c.byte.ensures c.loop-i.invariant.1,
+      (omega arith, length-set c.loop-i.out c.loop-i.i c.get_or.result ∙ c.loop-i.invariant.0.1),
+      filled-set a.out.now (λ k. get_or a.list.now (a.start + k) 0) c.loop-i.i c.get_or.result (omega arith) c.get_or.ensures c.loop-i.invariant.1,
     )
 
 pub returns : goal.returns

@@ -1,14 +1,15 @@
-use Rattle.script.proofs.LinesLaws.{sought-start, sought-here, sought-more, sought-end}
+-- `bytes::find` meets its contract.
+use borrow.Author.Rules.{rules}
+use borrow.Author.Tests.{tests}
+use lib.Dec.{eqb}
+use Rattle.std.proofs.lemmas.Iterator.{YieldsList-from_slice}
+use Rattle.std.proofs.lemmas.Iterator.Search.{position_from_yields_List}
+use Rattle.script.proofs.LinesLaws.{found_is}
 use Rattle.script.proofs.bytes.find.Goals as goal
 
-pub loop-i-init : goal.loop-i-init
-loop-i-init c = sought-start _ _
-
-pub returns-then-s-i : goal.returns-then-s-i
-returns-then-s-i c = sought-here _ _ _ c.loop-i-test.true c.if-s-i.true c.loop-i.invariant
-
-pub loop-i-preserved : goal.loop-i-preserved
-loop-i-preserved c = sought-more _ _ _ c.loop-i-test.true c.if-s-i.false c.loop-i.invariant
-
 pub returns : goal.returns
-returns c = sought-end _ _ _ c.loop-i-test.false c.loop-i.invariant
+returns c =
+    let a = c.args in
+    let p = c.position in
+    found_is _ _ _
+    (position_from_yields_List (λ b. eqb b a.c) _ _ p.result p.ensures.ran (YieldsList-from_slice a.s.now cc) (λ x b q k. search (rules, tests)))

@@ -5,18 +5,17 @@ use lib.ListN.{length-append}
 use Rattle.script.specs.Print.{decimal, reply_line}
 use Rattle.script.proofs.WrittenLaws.{put_item, length-joined, length_taken, put-wrote, short-wrote}
 use Rattle.script.proofs.print.taken_line.Goals as goal
+use Rattle.script.proofs.print.taken_line.Goals.{then-out-front-via-then-out-front, then-out-front-via-else-out-front+then-out-front-2}
 
 pub returns-then-out-front : goal.returns-then-out-front
 unfolding reply_line
 returns-then-out-front c =
     let a = c.args in
-    short-wrote _ _ (omega (arith, length_taken a.sender a.number a.word.now, length-joined (decimal a.line) (decimal 0) (decimal a.sender ∷ decimal a.number ∷ a.word.now ∷ [])))
-
-pub returns-then-out-front-2 : goal.returns-then-out-front-2
-unfolding reply_line
-returns-then-out-front-2 c =
-    let a = c.args in
-    short-wrote _ _ (omega (arith, length_taken a.sender a.number a.word.now, length-joined (decimal a.line) (decimal 0) (decimal a.sender ∷ decimal a.number ∷ a.word.now ∷ [])))
+    let whole = length-joined (decimal a.line) (decimal 0) (decimal a.sender ∷ decimal a.number ∷ a.word.now ∷ []) in
+    elim c.then-out-front.branch [
+      | then-out-front-via-then-out-front w ↦ short-wrote _ _ (omega (arith, length_taken a.sender a.number a.word.now, whole))
+      | then-out-front-via-else-out-front+then-out-front-2 w ↦ short-wrote _ _ (omega (arith, length_taken a.sender a.number a.word.now, whole))
+    ]
 
 pub put_taken-requires : goal.put_taken-requires
 put_taken-requires c =

@@ -1,14 +1,8 @@
--- `kept` meets its contract.
 use native.Mathlib.Omega.{arith}
 use Rattle.state.specs.View.{free_places}
 use Rattle.steps.proofs.RangeLaws.{places-few}
-use Rattle.steps.specs.Sending.{sending_own, frame_length}
 use Rattle.steps.proofs.own.kept.Goals as goal
 
 pub overflow_cast-result : goal.overflow_cast-result
 unfolding free_places
 overflow_cast-result c = omega (arith, places-few c.args.c c.requires.0, c.free_places-buf.ensures)
-
-pub returns : goal.returns
-unfolding sending_own frame_length
-returns c = rw (← c.free_places-buf.ensures, ← c.first_free-place.ensures, ← c.keeping-next.ensures, ← c.stored-s.ensures, ← c.kept_slot.ensures)

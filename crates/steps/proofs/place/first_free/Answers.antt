@@ -1,13 +1,7 @@
--- `first_free` meets its contract.
 use native.Mathlib.Omega.{arith}
 use Prim.Native.Nat.{◌*◌}
-use Rattle.steps.specs.Arrival.{free_place}
 use Rattle.steps.proofs.RangeLaws.{free_of-le}
 use Rattle.steps.proofs.place.first_free.Goals as goal
 
 pub overflow_add-result : goal.overflow_add-result
 overflow_add-result c = omega (arith, c.free_slot.ensures, free_of-le c.args.c.order c.args.j (4 * c.args.c.w), c.requires.0, c.requires.1.1)
-
-pub returns : goal.returns
-unfolding free_place
-returns c = rw (← c.free_slot.ensures)

@@ -6,4 +6,4 @@ use Rattle.unit.proofs.Unit.open.Goals as goal
 
 pub returns : goal.returns
 unfolding opened_of
-returns c = opens-unit c.args.o _ (ap opened_from c.opened_with-f.ensures)
+returns c = opens-unit c.args.o _ (ap opened_from c.opened_with-opened.ensures)

@@ -3,4 +3,4 @@ use Rattle.bench.proofs.LineLaws.{starts_first}
 use Rattle.bench.proofs.reading.Bench.new.Goals as goal
 
 pub returns : goal.returns
-returns c = starts_first c.new.ensures c.«open».ensures
+returns c = starts_first c.new.ensures

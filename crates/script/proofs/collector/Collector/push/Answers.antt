@@ -6,5 +6,5 @@ use Rattle.script.proofs.collector.Collector.push.Goals as goal
 pub returns-then-n-lt-LONGEST : goal.returns-then-n-lt-LONGEST
 returns-then-n-lt-LONGEST c = pushed-is _ _ (search rules) (pushed_room _ _ c.if-n-lt-LONGEST.true)
 
-pub returns : goal.returns
-returns c = pushed-is _ _ (search rules) (pushed-full _ _ c.if-n-lt-LONGEST.false)
+pub returns-else-n-lt-LONGEST : goal.returns-else-n-lt-LONGEST
+returns-else-n-lt-LONGEST c = pushed-is _ _ (search rules) (pushed-full _ _ c.if-n-lt-LONGEST.false)

@@ -10,11 +10,6 @@ use Rattle.script.proofs.collector.Collector.read.Goals as goal
 pub returns-then-self : goal.returns-then-self
 returns-then-self c = begun-long c.args.self c.if-self.true
 
-pub slice_bounds-bytes-end : goal.slice_bounds-bytes-end
-slice_bounds-bytes-end c =
-    let full : length c.args.self.bytes ≡ 80 = search rules in
-    omega arith
-
 pub slice_bounds-read-end : goal.slice_bounds-read-end
 slice_bounds-read-end c =
     let full : length c.args.self.bytes ≡ 80 = search rules in

@@ -41,6 +41,7 @@ impl TryFrom<u8> for Kind {
 
 // The content of a field is numbers of `width` bytes each; its length in bytes is from `least` to `greatest`; data
 // messages have the field, requests have it.
+// Kept: two flags, no plainer as one field: a set of kinds would be an enum of four names, Neither to Both.
 #[derive(Clone, Copy)]
 pub struct Row {
     pub width: u8,
@@ -155,6 +156,7 @@ impl Row {
 }
 
 // The line of a tag; for tag 0 and past the table, the line of no kind.
+// Kept: a Row and no Option, since row_of, has_tag and length_fits give an answer for every tag (docs/CONTRACTS.md).
 pub fn row_of(tag: u8) -> Row
     ensures { result ≡ line_of (row_of table tag) }
 {
@@ -165,6 +167,7 @@ pub fn row_of(tag: u8) -> Row
 }
 
 // Frames of this kind have this tag.
+// Kept: any number for the kind, since has_tag answers for each (docs/CONTRACTS.md); is_of takes a Kind.
 pub fn has_tag(tag: u8, kind: u8) -> bool
     ensures { result ≡ has tag kind }
 {

@@ -21,9 +21,6 @@ use Rattle.framewrite.specs.Fields.{number_of, content_of, contents_of, fields_o
 
 -- ---- the content of a field
 
-pub number-rest : (m : Singles) (t : ℕ) → t ≢ 1 → t ≢ 2 → t ≢ 3 → t ≢ 4 → t ≢ 5 → t ≢ 7 → t ≢ 8 → m.lseq ≡ number_of m t
-number-rest m t a b c d e f g = rw (ne_eqb t 1 a, ne_eqb t 2 b, ne_eqb t 3 c, ne_eqb t 4 d, ne_eqb t 5 e, ne_eqb t 7 f, ne_eqb t 8 g)
-
 module _ (m : Singles) (ack text : List ℕ) (t : ℕ) where
   pub content-ack : t ≡ 6 → content_of m ack text t ≡ ack
   unfolding content_of

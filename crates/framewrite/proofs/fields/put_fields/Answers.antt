@@ -36,8 +36,5 @@ loop-tag-preserved c =
           (subst⁻¹ (Next l.d) w.at-is (passed-by _ _ _ _ _ _ _ l.invariant t (has-row l.tag _ _ c.row_of.ensures _ c.is_of.ensures _ w.if-is_of.false)))
     ]
 
-pub shape_of-d : goal.shape_of-d
-shape_of-d c = c.loop-tag.invariant.long
-
 pub returns : goal.returns
 returns c = none_ahead _ _ _ _ _ _ _ c.loop-tag.invariant (omega arith)

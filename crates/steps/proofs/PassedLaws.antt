@@ -1,24 +1,20 @@
 -- What an arrival or a send that is not refused has passed.
-use Rattle.std.specs.Prelude.{true, false, List, ◌≡◌, ⊤, ℕ, ◌≤◌, ◌<◌, eqb, Option, Some, None, Ok}
+use Rattle.std.specs.Prelude.{true, List, ◌≡◌, ⊤, ℕ, ◌<◌, eqb, Option, Some, None}
 use mathlib.Core.Option.{none, some}
 use mathlib.Core.Option as maybe
 use mathlib.Core.Path.{refl, sym, subst}
 use native.Mathlib.Omega.{arith}
-use borrow.Author.Tests.{ltb-false, leb-false}
-use Rattle.rules.specs.Maps.{between, at}
+use Rattle.rules.specs.Maps.{between}
 use Rattle.rules.specs.Message.{Said, message, request, decode}
-use Rattle.rules.proofs.MapsLaws.{and_right, between-low, between-high, or_left, or_right}
+use Rattle.rules.proofs.MapsLaws.{and_right, between-low, between-high}
 use Rattle.rules.proofs.LimitsLaws.{decode-limits}
-use Rattle.answers.specs.Answers.{Answered, judged}
-use Rattle.answers.proofs.AnswersLaws.{done_passes}
 use Rattle.state.specs.declared.Core.{Core}
 use Rattle.frame.specs.declared.Head.{Head}
 use Rattle.frame.specs.declared.Data.{Data}
-use Rattle.frame.specs.declared.Request.{Request}
 use Rattle.frame.specs.declared.Frame.{Frame}
 use Rattle.frame.specs.declared.Frame.TheVariants as frame
 use Rattle.frame.specs.Frame.{frame_of}
-use Rattle.steps.specs.Checks.{FromUnit, of_group, asks_wrongly, request_checks, send_checks}
+use Rattle.steps.specs.Checks.{FromUnit, of_group}
 
 pub from-unit : (c : Core) (h : Head) → of_group c h ≡ true → FromUnit c h
 unfolding of_group

@@ -1,13 +1,17 @@
--- What an arrival or a send that is not refused has passed.
-use Rattle.std.specs.Prelude.{true, List, ◌≡◌, ⊤, ℕ, ◌<◌, eqb, Option, Some, None}
+-- What an arrival has passed, and what its refusal says.
+use Rattle.std.specs.Prelude.{true, List, ◌≡◌, ⊤, ℕ, ◌<◌, eqb, Option, Some, None, Ok, Err}
 use mathlib.Core.Option.{none, some}
 use mathlib.Core.Option as maybe
-use mathlib.Core.Path.{refl, sym, subst}
+use mathlib.Core.Path.{refl, sym, ap, subst, ◌∙◌}
 use native.Mathlib.Omega.{arith}
 use Rattle.rules.specs.Maps.{between}
+use Rattle.rules.specs.Calls.{Check, decide}
 use Rattle.rules.specs.Message.{Said, message, request, decode}
 use Rattle.rules.proofs.MapsLaws.{and_right, between-low, between-high}
 use Rattle.rules.proofs.LimitsLaws.{decode-limits}
+use Rattle.answers.specs.declared.Refusal.{Refusal}
+use Rattle.answers.specs.Answers.{Answered, number_of, refusal_of, judged}
+use Rattle.answers.proofs.AnswersLaws.{Numbered, decide-numbered}
 use Rattle.state.specs.declared.Core.{Core}
 use Rattle.frame.specs.declared.Head.{Head}
 use Rattle.frame.specs.declared.Data.{Data}
@@ -36,3 +40,14 @@ frame-short l f e = subst short (sym e) (go (decode l) refl)
     go none h = tt
     go (some (message p)) h = omega (arith, (decode-limits l p h).short)
     go (some (request r)) h = tt
+
+-- checks made by a function of their own: its refusal tells what they decide
+module _ {B : Type 0} (refused : ℕ → B) (done : B) where
+  by-answer : Answered ⊤ → B
+  by-answer (Ok x) = done
+  by-answer (Err r) = refused (number_of r)
+
+  pub refused-decides : (l : List Check) → Numbered l → (r : Refusal) → ◌≡◌ {A = Answered ⊤} (judged l tt) (Err r) → decide l refused done ≡ refused (number_of r)
+  unfolding by-answer
+  refused-decides l n r h =
+      sym (decide-numbered by-answer (λ a. Err (refusal_of a)) (Ok tt) refused (λ a e. ap refused e) l n) ∙ ap by-answer h

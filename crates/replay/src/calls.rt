@@ -2,7 +2,7 @@
 ghost use Rattle.std.specs.Prelude.{◌≡◌, ◌+◌, ◌*◌, ◌≤◌, length};
 ghost use Rattle.rules.specs.Maps.{listed};
 ghost use Rattle.handing.specs.Handing.{Gives};
-ghost use Rattle.replay.specs.Calls.{gives, open_made, send_made, arrive_made, handed_made, take_made, look_made, made_of};
+ghost use Rattle.replay.specs.Calls.{gives, open_made, send_made, arrive_made, handed_made, take_made, count_made, look_made, made_of};
 ghost use Rattle.replay.specs.Kinds.{call_number};
 ghost use Rattle.replay.specs.Changes.{changed_of};
 ghost use Rattle.replay.specs.Record.{byte_at, number_at, call_of};
@@ -10,8 +10,8 @@ ghost use Rattle.replay.specs.Record.{byte_at, number_at, call_of};
 use crate::changes::changed;
 use crate::kinds::Call;
 use crate::record::{number_at, text};
-use handing::Handed;
-use handing::looks::Look;
+use answers::{Refusal, answer};
+use handing::looks::Numbers;
 use state::Opening;
 use tables;
 use unit::Unit;
@@ -56,25 +56,28 @@ fn firsts(s: &[u8]) -> [u32; 8]
 fn opened(s: &[u8]) -> Made
     ensures { result ≡ open_made s.now }
 {
-    let o = Unit::open(Opening {
+    let (unit, opened) = Unit::open(Opening {
         me: tables::byte(s, 8),
         n: tables::byte(s, 9),
         w: tables::byte(s, 10),
         cid: number_at(s, 2),
         first: firsts(s),
     });
-    Made::bare(o.answer, o.unit)
+    Made::bare(answer(&opened), unit)
 }
 
 #[tactic(auto, unfolding(crate::specs::Calls::send_made))]
 fn sent(u: Unit, text: &[u8], out: &mut [u8]) -> Made
     ensures { Gives (send_made u text.now out.old) result out.new }
 {
-    let m = u.send(text, out);
-    Made {
-        a: m.seq as usize,
-        b: m.len,
-        ..Made::bare(m.answer, m.unit)
+    let (unit, sent) = u.send(text, out);
+    match sent {
+        Ok(s) => Made {
+            a: s.seq as usize,
+            b: s.len,
+            ..Made::bare(0, unit)
+        },
+        Err(refusal) => Made::bare(u32::from(refusal), unit),
     }
 }
 
@@ -82,21 +85,31 @@ fn sent(u: Unit, text: &[u8], out: &mut [u8]) -> Made
 fn arrived(u: Unit, frame: &[u8]) -> Made
     ensures { result ≡ arrive_made u frame.now }
 {
-    let m = u.arrive(frame);
-    Made {
-        a: m.first as usize,
-        b: m.last as usize,
-        ..Made::bare(m.answer, m.unit)
+    let (unit, arrived) = u.arrive(frame);
+    let asked = match arrived {
+        Ok(asked) => asked,
+        Err(refusal) => return Made::bare(u32::from(refusal), unit),
+    };
+    match asked {
+        Some(r) => Made {
+            a: r.first as usize,
+            b: r.last as usize,
+            ..Made::bare(0, unit)
+        },
+        None => Made::bare(0, unit),
     }
 }
 
 // A request and a copy leave the unit as it was.
-fn handed(u: Unit, h: Handed) -> Made
-    ensures { result ≡ handed_made u h }
+fn handed(unit: Unit, len: Result<usize, Refusal>) -> Made
+    ensures { result ≡ handed_made unit len }
 {
-    Made {
-        a: h.len,
-        ..Made::bare(h.answer, u)
+    match len {
+        Ok(len) => Made {
+            a: len,
+            ..Made::bare(0, unit)
+        },
+        Err(refusal) => Made::bare(u32::from(refusal), unit),
     }
 }
 
@@ -104,22 +117,41 @@ fn handed(u: Unit, h: Handed) -> Made
 fn taken(u: Unit, out: &mut [u8]) -> Made
     ensures { Gives (take_made u out.old) result out.new }
 {
-    let m = u.take(out);
-    Made {
-        a: m.src as usize,
-        b: m.seq as usize,
-        c: m.len,
-        ..Made::bare(m.answer, m.unit)
+    let (unit, taken) = u.take(out);
+    match taken {
+        Ok(t) => Made {
+            a: t.src as usize,
+            b: t.seq as usize,
+            c: t.len,
+            ..Made::bare(0, unit)
+        },
+        Err(refusal) => Made::bare(u32::from(refusal), unit),
     }
 }
 
-fn looked(u: Unit, l: Look) -> Made
-    ensures { result ≡ look_made u l }
+// Looks leave the unit as it was too: they show a count alone, or numbers in a row.
+fn counted(unit: Unit, count: Result<usize, Refusal>) -> Made
+    ensures { result ≡ count_made unit count }
 {
-    Made {
-        a: l.first as usize,
-        b: l.count,
-        ..Made::bare(l.answer, u)
+    match count {
+        Ok(count) => Made {
+            b: count,
+            ..Made::bare(0, unit)
+        },
+        Err(refusal) => Made::bare(u32::from(refusal), unit),
+    }
+}
+
+fn looked(unit: Unit, numbers: Result<Numbers, Refusal>) -> Made
+    ensures { result ≡ look_made unit numbers }
+{
+    match numbers {
+        Ok(row) => Made {
+            a: row.first as usize,
+            b: row.count,
+            ..Made::bare(0, unit)
+        },
+        Err(refusal) => Made::bare(u32::from(refusal), unit),
     }
 }
 
@@ -154,11 +186,11 @@ fn named(u: Unit, call: Call, s: &[u8], out: &mut [u8]) -> Made
         Call::Request => handed(u, u.request(k, out)),
         Call::Copy => handed(u, u.copy(x, out)),
         Call::Take => taken(u, out),
-        Call::ToTake => looked(u, u.to_take()),
-        Call::FreePlaces => looked(u, u.free_places()),
+        Call::ToTake => counted(u, u.to_take()),
+        Call::FreePlaces => counted(u, u.free_places()),
         Call::KeptNumbers => looked(u, u.kept_numbers()),
         Call::MissingOf => looked(u, u.missing_of(k)),
-        Call::WaitingOf => looked(u, u.waiting_of(k)),
+        Call::WaitingOf => counted(u, u.waiting_of(k)),
         Call::IsSound => Made {
             a: usize::from(u.is_sound()),
             ..Made::bare(0, u)

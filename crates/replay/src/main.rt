@@ -29,14 +29,14 @@ const PART: usize = 64;
 fn closed() -> [Unit; Unit::MOST_UNITS]
     ensures { result ≡ replicate 8 closed_unit }
 {
-    let none = Unit::open(Opening {
+    let (none, _) = Unit::open(Opening {
         me: 0,
         n: 0,
         w: 0,
         cid: 0,
         first: [0u32; 8],
     });
-    [none.unit; Unit::MOST_UNITS]
+    [none; Unit::MOST_UNITS]
 }
 
 // The output before a call.

@@ -1,6 +1,6 @@
 -- Taking everything: a refusal ends it, and a message leaves one fewer to take.
 use mathlib.Core.List.{List}
-use mathlib.Core.Path.{◌≡◌, refl}
+use mathlib.Core.Path.{◌≡◌, refl, ap₂}
 use Prim.Native.Nat.{ℕ, zero, suc, ◌-◌, ◌<◌}
 use native.Mathlib.Omega.{arith}
 use Rattle.std.specs.Prelude.{Ok, Err}
@@ -12,12 +12,12 @@ use Rattle.unit.specs.declared.Taken.{Taken}
 use Rattle.unit.specs.CallContracts.{Takes}
 use Rattle.unit.specs.Exact.{taken_of}
 use Rattle.drive.specs.declared.Summed.{Summed}
-use Rattle.drive.specs.Run.{with_message, all_taken}
+use Rattle.drive.specs.Run.{with_message, all_taken, all_after}
 
 -- a take as its contract has it
-pub from-take : (m : ℕ) (u : Unit) (out : List ℕ) (r : Unit × Answered Taken) (out' : List ℕ) (s : ℕ) → Takes u out r out'
-    → (let g : Given (Unit × Answered Taken) = taken_of u out in all_taken m g.result.0 g.result.1 g.output s) ≡ all_taken m r.0 r.1 out' s
-from-take m u out r out' s e = rw (e.exact, e.bytes)
+pub take-given : (u : Unit) (out : List ℕ) (r : Unit × Answered Taken) (out' : List ℕ) → Takes u out r out'
+    → ◌≡◌ {A = Given (Unit × Answered Taken)} (record { result = r; output = out' }) (taken_of u out)
+take-given u out r out' e = ap₂ (λ (a : Unit × Answered Taken) (l : List ℕ). record { result = a; output = l }) e.exact e.bytes
 
 module _ (u : Unit) (out : List ℕ) (s : ℕ) where
   pub taken_none : (m : ℕ) (t : Answered Taken) → m ≡ 0 → ◌≡◌ {A = Summed} (record { sum = s; unit = u }) (all_taken m u t out s)
@@ -31,7 +31,7 @@ module _ (u : Unit) (out : List ℕ) (s : ℕ) where
   taken-stop (suc m) t r h = rw h
 
   pub taken_more : (m : ℕ) (t : Taken) → 0 < m
-      → all_taken m u (Ok t) out s ≡ (let g : Given (Unit × Answered Taken) = taken_of u out in all_taken (m - 1) g.result.0 g.result.1 g.output (with_message s t.src t.seq t.len out))
+      → all_taken m u (Ok t) out s ≡ all_after (m - 1) (with_message s t.src t.seq t.len out) (taken_of u out)
   unfolding all_taken
   taken_more zero t p = absurd (omega arith)
   taken_more (suc m) t p =

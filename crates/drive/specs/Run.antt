@@ -29,11 +29,13 @@ all_taken (suc m) u (Ok t) out s =
     let g : Given (Unit × Answered Taken) = taken_of u out in
     all_taken m g.result.0 g.result.1 g.output (with_message s t.src t.seq t.len out)
 
+-- the take g, and all those after it
+abbrev pub all_after : ℕ → ℕ → Given (Unit × Answered Taken) → Summed
+all_after m s g = all_taken m g.result.0 g.result.1 g.output s
+
 -- everything that u may show
 abbrev pub shown : Unit → ℕ → Summed
-shown u s =
-    let g : Given (Unit × Answered Taken) = taken_of u (replicate 16 0) in
-    all_taken 128 g.result.0 g.result.1 g.output s
+shown u s = all_after 128 s (taken_of u (replicate 16 0))
 
 -- ---- a visit
 

@@ -10,35 +10,17 @@ ghost use Rattle.replay.specs.Record.{byte_at, number_at, call_of};
 use crate::changes::changed;
 use crate::kinds::Call;
 use crate::record::{number_at, text};
-use answers::{Refusal, answer};
+use answers::Refusal;
 use handing::looks::Numbers;
 use state::Opening;
 use tables;
 use unit::Unit;
 
-// Answer and numbers of a call, those that it lacks being 0, and the next unit.
+// What a call gives: three numbers (those that it lacks are 0) or why it refuses; and the next unit.
 #[derive(Clone, Copy)]
 pub struct Made {
-    pub answer: u32,
-    pub a: usize,
-    pub b: usize,
-    pub c: usize,
+    pub given: Result<(usize, usize, usize), Refusal>,
     pub unit: Unit,
-}
-
-impl Made {
-    // What a call without numbers gives.
-    fn bare(answer: u32, unit: Unit) -> Self
-        ensures { result ≡ gives answer 0 0 0 unit }
-    {
-        Self {
-            answer,
-            a: 0,
-            b: 0,
-            c: 0,
-            unit,
-        }
-    }
 }
 
 // The eight first numbers of an opening.
@@ -63,7 +45,10 @@ fn opened(s: &[u8]) -> Made
         cid: number_at(s, 2),
         first: firsts(s),
     });
-    Made::bare(answer(&opened), unit)
+    Made {
+        given: opened.map(|()| (0, 0, 0)),
+        unit,
+    }
 }
 
 #[tactic(auto, unfolding(crate::specs::Calls::send_made))]
@@ -71,14 +56,8 @@ fn sent(u: Unit, text: &[u8], out: &mut [u8]) -> Made
     ensures { Gives (send_made u text.now out.old) result out.new }
 {
     let (unit, sent) = u.send(text, out);
-    match sent {
-        Ok(s) => Made {
-            a: s.seq as usize,
-            b: s.len,
-            ..Made::bare(0, unit)
-        },
-        Err(refusal) => Made::bare(u32::from(refusal), unit),
-    }
+    let given = sent.map(|s| (s.seq as usize, s.len, 0));
+    Made { given, unit }
 }
 
 #[tactic(auto, unfolding(crate::specs::Calls::arrive_made))]
@@ -86,31 +65,19 @@ fn arrived(u: Unit, frame: &[u8]) -> Made
     ensures { result ≡ arrive_made u frame.now }
 {
     let (unit, arrived) = u.arrive(frame);
-    let asked = match arrived {
-        Ok(asked) => asked,
-        Err(refusal) => return Made::bare(u32::from(refusal), unit),
-    };
-    match asked {
-        Some(r) => Made {
-            a: r.first as usize,
-            b: r.last as usize,
-            ..Made::bare(0, unit)
-        },
-        None => Made::bare(0, unit),
-    }
+    let given = arrived.map(|asked| match asked {
+        Some(r) => (r.first as usize, r.last as usize, 0),
+        None => (0, 0, 0),
+    });
+    Made { given, unit }
 }
 
 // A request and a copy leave the unit as it was.
 fn handed(unit: Unit, len: Result<usize, Refusal>) -> Made
     ensures { result ≡ handed_made unit len }
 {
-    match len {
-        Ok(len) => Made {
-            a: len,
-            ..Made::bare(0, unit)
-        },
-        Err(refusal) => Made::bare(u32::from(refusal), unit),
-    }
+    let given = len.map(|len| (len, 0, 0));
+    Made { given, unit }
 }
 
 #[tactic(auto, unfolding(crate::specs::Calls::take_made))]
@@ -118,57 +85,40 @@ fn taken(u: Unit, out: &mut [u8]) -> Made
     ensures { Gives (take_made u out.old) result out.new }
 {
     let (unit, taken) = u.take(out);
-    match taken {
-        Ok(t) => Made {
-            a: t.src as usize,
-            b: t.seq as usize,
-            c: t.len,
-            ..Made::bare(0, unit)
-        },
-        Err(refusal) => Made::bare(u32::from(refusal), unit),
-    }
+    let given = taken.map(|t| (t.src as usize, t.seq as usize, t.len));
+    Made { given, unit }
 }
 
 // Looks leave the unit as it was too: they show a count alone, or numbers in a row.
 fn counted(unit: Unit, count: Result<usize, Refusal>) -> Made
     ensures { result ≡ count_made unit count }
 {
-    match count {
-        Ok(count) => Made {
-            b: count,
-            ..Made::bare(0, unit)
-        },
-        Err(refusal) => Made::bare(u32::from(refusal), unit),
-    }
+    let given = count.map(|count| (0, count, 0));
+    Made { given, unit }
 }
 
 fn looked(unit: Unit, numbers: Result<Numbers, Refusal>) -> Made
     ensures { result ≡ look_made unit numbers }
 {
-    match numbers {
-        Ok(row) => Made {
-            a: row.first as usize,
-            b: row.count,
-            ..Made::bare(0, unit)
-        },
-        Err(refusal) => Made::bare(u32::from(refusal), unit),
-    }
+    let given = numbers.map(|row| (row.first as usize, row.count, 0));
+    Made { given, unit }
 }
 
 // The unit with the number set that the record names.
 fn set(u: Unit, s: &[u8], x: u32) -> Made
-    ensures { result ≡ gives 0 0 0 0 (changed_of u (byte_at s.now 8) (byte_at s.now 9) (byte_at s.now 10) x) }
+    ensures { result ≡ gives 0 0 0 (changed_of u (byte_at s.now 8) (byte_at s.now 9) (byte_at s.now 10) x) }
 {
-    Made::bare(
-        0,
-        changed(
-            u,
-            tables::byte(s, 8),
-            tables::byte(s, 9),
-            tables::byte(s, 10),
-            x,
-        ),
-    )
+    let unit = changed(
+        u,
+        tables::byte(s, 8),
+        tables::byte(s, 9),
+        tables::byte(s, 10),
+        x,
+    );
+    Made {
+        given: Ok((0, 0, 0)),
+        unit,
+    }
 }
 
 // The call of a record. Calls that write nothing leave the output as it was.
@@ -192,8 +142,8 @@ fn named(u: Unit, call: Call, s: &[u8], out: &mut [u8]) -> Made
         Call::MissingOf => looked(u, u.missing_of(k)),
         Call::WaitingOf => counted(u, u.waiting_of(k)),
         Call::IsSound => Made {
-            a: usize::from(u.is_sound()),
-            ..Made::bare(0, u)
+            given: Ok((usize::from(u.is_sound()), 0, 0)),
+            unit: u,
         },
         Call::Set => set(u, s, x),
     }
@@ -207,6 +157,9 @@ pub fn make(u: Unit, s: &[u8], out: &mut [u8]) -> Made
 {
     match Call::try_from(tables::byte(s, 0)) {
         Ok(call) => named(u, call, s, out),
-        Err(_) => Made::bare(0, u),
+        Err(_) => Made {
+            given: Ok((0, 0, 0)),
+            unit: u,
+        },
     }
 }

@@ -39,9 +39,9 @@ fn opened(s: &[u8]) -> Made
     ensures { result ≡ open_made s.now }
 {
     let (unit, opened) = Unit::open(Opening {
-        me: tables::byte(s, 8),
-        n: tables::byte(s, 9),
-        w: tables::byte(s, 10),
+        me: tables::get_or(s, 8, 0),
+        n: tables::get_or(s, 9, 0),
+        w: tables::get_or(s, 10, 0),
         cid: number_at(s, 2),
         first: firsts(s),
     });
@@ -110,9 +110,9 @@ fn set(u: Unit, s: &[u8], x: u32) -> Made
 {
     let unit = changed(
         u,
-        tables::byte(s, 8),
-        tables::byte(s, 9),
-        tables::byte(s, 10),
+        tables::get_or(s, 8, 0),
+        tables::get_or(s, 9, 0),
+        tables::get_or(s, 10, 0),
         x,
     );
     Made {
@@ -155,7 +155,7 @@ pub fn make(u: Unit, s: &[u8], out: &mut [u8]) -> Made
     requires { 208 ≤ length s.now }
     ensures { Gives (made_of u s.now out.old) result out.new }
 {
-    match Call::try_from(tables::byte(s, 0)) {
+    match Call::try_from(tables::get_or(s, 0, 0)) {
         Ok(call) => named(u, call, s, out),
         Err(_) => Made {
             given: Ok((0, 0, 0)),

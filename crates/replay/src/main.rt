@@ -54,12 +54,12 @@ fn answered(u: Unit, s: &[u8], out: &mut [u8], at: usize) -> Unit
     ensures { Gives (answered_of u s.now out.old at) result out.new }
 {
     let mut lent = blank();
-    let room = tables::byte(s, 6) as usize;
+    let room = tables::get_or(s, 6, 0) as usize;
     let m = calls::make(u, s, &mut lent[..room]);
     let (a, b, c) = m.given.unwrap_or((0, 0, 0));
     let front = head(answer(&m.given), a, b, c);
-    tables::put_bytes(out, at, &front);
-    tables::put_bytes(out, at + 16, &lent);
+    tables::put(out, at, &front);
+    tables::put(out, at + 16, &lent);
     m.unit
 }
 
@@ -70,7 +70,7 @@ fn run(units: &mut [Unit; Unit::MOST_UNITS], input: &[u8], records: usize, out: 
 {
     for i in 0..records {
         let from = CALL * i;
-        let k = (tables::byte(input, from + 1) % 8) as usize;
+        let k = (tables::get_or(input, from + 1, 0) % 8) as usize;
         let next = answered(units[k], &input[from..from + CALL], out, REPLY * i);
         units[k] = next;
     }

@@ -1,7 +1,7 @@
 // The ten tags of 01: what reader and writer know of each stands here and nowhere else.
 ghost use Rattle.std.specs.Prelude.{◌≡◌};
 ghost use Rattle.rules.specs.Fields.{table, row_of};
-ghost use Rattle.frame.specs.Table.{line_of, code_of, kind_of, is_of, has, length_fits};
+ghost use Rattle.frame.specs.Table.{line_of, tag_number, code_of, kind_of, is_of, has, length_fits};
 
 // What a frame is, by its number in tag 2.
 #[derive(Clone, Copy, Debug, PartialEq, Eq)]
@@ -36,6 +36,43 @@ impl TryFrom<u8> for Kind {
             2 => Ok(Kind::Request),
             _ => Err(UnknownKind(code)),
         }
+    }
+}
+
+// The ten tags, by their numbers: the byte that a field begins with.
+#[derive(Clone, Copy)]
+pub enum Tag {
+    Edition = 1,
+    Kind,
+    Cid,
+    Src,
+    Seq,
+    Ack,
+    Buf,
+    Lsrc,
+    Lseq,
+    Data,
+}
+
+// In the order in which they stand in a frame.
+pub const TAGS: [Tag; 10] = [
+    Tag::Edition,
+    Tag::Kind,
+    Tag::Cid,
+    Tag::Src,
+    Tag::Seq,
+    Tag::Ack,
+    Tag::Buf,
+    Tag::Lsrc,
+    Tag::Lseq,
+    Tag::Data,
+];
+
+impl From<Tag> for u8 {
+    ghost from_gives = { λ tag number. number ≡ tag_number tag };
+
+    fn from(tag: Tag) -> u8 {
+        tag as u8
     }
 }
 
@@ -164,6 +201,22 @@ pub fn row_of(tag: u8) -> Row
         return NONE;
     }
     TABLE.get(tag as usize - 1).copied().unwrap_or(NONE)
+}
+
+impl Tag {
+    // The line of the tag.
+    pub fn row(self) -> Row
+        ensures { result ≡ line_of (row_of table (tag_number self)) }
+    {
+        row_of(self.into())
+    }
+
+    // A field of the tag can be n bytes long.
+    pub fn length_fits(self, n: usize) -> bool
+        ensures { result ≡ length_fits (tag_number self) n }
+    {
+        length_fits(self.into(), n)
+    }
 }
 
 // Frames of this kind have this tag.

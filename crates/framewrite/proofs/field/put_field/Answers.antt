@@ -4,7 +4,7 @@ use Rattle.framewrite.proofs.Laying.{numbers-width, numbers-narrow, numbers-room
 use Rattle.framewrite.proofs.field.put_field.Goals as goal
 
 pub put_numbers-requires : goal.put_numbers-requires
-put_numbers-requires c = (numbers-width _ _ _ _ c.requires _ c.row_of-row.ensures, numbers-narrow _ _ _ _ c.requires _ c.row_of-row.ensures, omega (arith, numbers-room _ _ _ _ c.requires _ c.row_of-row.ensures, c.put_front.auto.d))
+put_numbers-requires c = (numbers-width _ _ _ _ c.requires _ c.row-row.ensures, numbers-narrow _ _ _ _ c.requires _ c.row-row.ensures, omega (arith, numbers-room _ _ _ _ c.requires _ c.row-row.ensures, c.put_front.auto.d))
 
 pub returns : goal.returns
-returns c = numbers-written _ _ _ _ c.requires _ c.row_of-row.ensures _ _ c.put_front.ensures c.put_numbers.ensures
+returns c = numbers-written _ _ _ _ c.requires _ c.row-row.ensures _ _ c.put_front.ensures c.put_numbers.ensures

@@ -51,6 +51,6 @@ pub fn put_text(d: &mut [u8], at: usize, text: &[u8]) -> usize
 {
     let n = text.len();
     put_front(d, at, Tag::Data, n);
-    tables::put_bytes(d, at + 3, text);
+    tables::put(d, at + 3, text);
     at + 3 + n
 }

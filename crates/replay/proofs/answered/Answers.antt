@@ -5,7 +5,7 @@ use mathlib.Core.Path.{sym, ap}
 use lib.ListN.{length}
 use lib.Seq.{length-take-le}
 use Rattle.replay.specs.Run.{blank}
-use Rattle.replay.proofs.RunLaws.{lent-long, answered-gives}
+use Rattle.replay.proofs.RunLaws.{lent-long, answered-gives, front-given}
 use Rattle.replay.proofs.answered.Goals as goal
 
 pub slice_bounds-make-end : goal.slice_bounds-make-end
@@ -20,5 +20,6 @@ slice_bounds-put_bytes-end-2 c =
 pub returns : goal.returns
 returns c =
     let a = c.args in
+    let front = front-given c.make-m.result.given _ c.unwrap_or-a.result _ c.answer.ensures c.unwrap_or-a.ensures c.head-front.ensures in
     answered-gives a.u a.s.now a.out.now a.at _ _ c.make-m.result _ _ _ _ c.byte-room.ensures c.blank-lent.ensures c.make-m.ensures
-    c.head-front.ensures c.put_bytes.ensures c.put_bytes-2.ensures
+    front c.put_bytes.ensures c.put_bytes-2.ensures

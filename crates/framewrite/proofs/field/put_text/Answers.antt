@@ -7,4 +7,4 @@ pub put_front-requires : goal.put_front-requires
 put_front-requires c = omega (arith, text-short _ _ _ c.requires, text_room _ _ _ c.requires)
 
 pub returns : goal.returns
-returns c = text-written _ _ _ c.requires _ _ c.put_front.ensures c.put_bytes.ensures
+returns c = text-written _ _ _ c.requires _ _ c.put_front.ensures c.put.ensures

@@ -17,7 +17,7 @@ use Rattle.handing.specs.Handing.{Given}
 use Rattle.unit.specs.declared.Unit.{Unit}
 use Rattle.unit.specs.declared.Sent.{Sent}
 use Rattle.unit.specs.declared.Arrived.{Arrived}
-use Rattle.unit.specs.declared.Taken.{Taken}
+use Rattle.handing.specs.declared.Taken.{Taken}
 use Rattle.unit.specs.View.{view, meant, of_sent, of_arrived, of_handed, of_taken}
 use Rattle.unit.specs.CallContracts.{Sends, Arrives, Asks, Takes}
 use Rattle.script.specs.Items.{Command, sends, arrives, requests, takes}

@@ -6,7 +6,7 @@ use Rattle.handing.specs.Handing.{Given, asking_of}
 use Rattle.unit.specs.declared.Unit.{Unit}
 use Rattle.unit.specs.declared.Sent.{Sent}
 use Rattle.unit.specs.declared.Arrived.{Arrived}
-use Rattle.unit.specs.declared.Taken.{Taken}
+use Rattle.handing.specs.declared.Taken.{Taken}
 use Rattle.unit.specs.Exact.{sent_of, arrived_of, taken_of}
 use Rattle.script.specs.Items.{Command, groups, sends, arrives, requests, takes, unreadable}
 use Rattle.script.specs.Desk.{unknown, answers, took, lent, act}

@@ -8,7 +8,7 @@ use Rattle.answers.specs.declared.Refusal.{Refusal}
 use Rattle.answers.specs.Answers.{Answered}
 use Rattle.handing.specs.Handing.{Given}
 use Rattle.unit.specs.declared.Unit.{Unit}
-use Rattle.unit.specs.declared.Taken.{Taken}
+use Rattle.handing.specs.declared.Taken.{Taken}
 use Rattle.unit.specs.CallContracts.{Takes}
 use Rattle.unit.specs.Exact.{taken_of}
 use Rattle.drive.specs.declared.Summed.{Summed}

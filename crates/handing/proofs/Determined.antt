@@ -13,7 +13,7 @@ use Rattle.handing.specs.Looks.{shown_as}
 gives-determined : {A : Type 0} (g : Given A) (r q : A) (after other : List ℕ) → Gives g r after → Gives g q other → (r ≡ q) × (after ≡ other)
 gives-determined g r q after other a b = (a.result ∙ sym b.result, a.output ∙ sym b.output)
 
-pub taking-determined : (c : Core) (acks bytes out : List ℕ) (r q : Answered Taken) (after other : List ℕ)
+pub taking-determined : (c : Core) (acks bytes out : List ℕ) (r q : Core × Answered Taken) (after other : List ℕ)
     → Gives (taking_of c acks bytes out) r after → Gives (taking_of c acks bytes out) q other → (r ≡ q) × (after ≡ other)
 taking-determined c acks bytes out = gives-determined (taking_of c acks bytes out)
 

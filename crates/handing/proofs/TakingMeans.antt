@@ -14,12 +14,10 @@ use Rattle.rules.specs.Calls.{refusal, written, oldest, take_checks, take}
 use Rattle.rules.proofs.MapsLaws.{length-listed}
 use Rattle.rules.proofs.AlikeLaws.{Alike}
 use Rattle.answers.proofs.AnswersLaws.{numbered-alike}
-use Rattle.std.specs.Prelude.{Ok}
 use Rattle.lists.specs.Order.{entry, confirmeds, without_first}
 use Rattle.lists.specs.View.{Shows}
 use Rattle.lists.proofs.ChangeLaws.{first-shows, without_first-shows}
 use Rattle.lists.proofs.ShowLaws.{shows-is}
-use Rattle.tables.specs.Rows.{part}
 use Rattle.tables.proofs.ListedLaws.{length_part}
 use Rattle.state.specs.declared.Core.{Core}
 use Rattle.state.specs.View.{place_at, kept_of, look}
@@ -28,7 +26,7 @@ use Rattle.state.proofs.LookLaws.{shows-look}
 use Rattle.state.proofs.SoundLaws.{sound-look}
 use Rattle.state.proofs.RoomLaws.{sound-room}
 use Rattle.state.specs.Changed.{with_order}
-use Rattle.handing.specs.Handing.{refusing, done_with, oldest_place, length_at, taken_at, taking_checks, taking_of}
+use Rattle.handing.specs.Handing.{not_taken, taken_with, oldest_place, length_at, taking_checks, taking_of}
 use Rattle.handing.specs.Meant.{taken_means}
 
 module _ (c : Core) (acks bytes frames : List ℕ) where
@@ -62,7 +60,7 @@ module _ (c : Core) (acks bytes frames : List ℕ) where
     unfolding look place_at kept_of without_taken
     rest = sym (shows-is M c.n (without_first c.order) s (without_taken s) refl (without_first-shows c.order long (sound-room c acks h) (omega arith) M c.n s S))
 
-    taken : (out : List ℕ) → taken_means c acks bytes frames (record { result = Ok (taken_at c p); output = written out (part bytes (48 * p) (length_at c p)) })
+    taken : (out : List ℕ) → taken_means acks bytes frames (taken_with c bytes out)
         ≡ record {
           answer = 0;
           numbers = (oldest s).src ∷ (oldest s).seq ∷ length (oldest s).text ∷ [];
@@ -85,8 +83,8 @@ module _ (c : Core) (acks bytes frames : List ℕ) where
     ),
   )
 
-  pub taking-means : (out : List ℕ) → length c.order.list ≡ 128 → taken_means c acks bytes frames (taking_of c acks bytes out) ≡ take s out
+  pub taking-means : (out : List ℕ) → length c.order.list ≡ 128 → taken_means acks bytes frames (taking_of c acks bytes out) ≡ take s out
   unfolding taking_of take
   taking-means out long =
-      numbered-alike (taken_means c acks bytes frames) (refusing out) (done_with (taken_at c p) (part bytes (48 * p) (length_at c p)) out) _ (λ a e. ap (refusal 3 s out) e) _ (taking_checks c acks out) (take_checks s out) (refl, (refl, (refl, tt))) (alike out long)
+      numbered-alike (taken_means acks bytes frames) (not_taken c out) (taken_with c bytes out) _ (λ a e. ap (refusal 3 s out) e) _ (taking_checks c acks out) (take_checks s out) (refl, (refl, (refl, tt))) (alike out long)
       (λ passed. taken long (not-false _ passed.0) (eqb-false c.order.confirmed 0 passed.1.0) out)

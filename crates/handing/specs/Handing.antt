@@ -44,13 +44,7 @@ length_at c p = get_or c.lens p 0
 
 -- the message at place p, the oldest confirmed one
 abbrev pub taken_at : Core → ℕ → Taken
-taken_at c p =
-    record {
-      src = sender_of p;
-      seq = get_or c.seqs p 0;
-      len = length_at c p;
-      core = with_order c (without_first c.order);
-    }
+taken_at c p = record { src = sender_of p; seq = get_or c.seqs p 0; len = length_at c p }
 
 abbrev pub taking_checks : Core → List ℕ → List ℕ → List Check
 taking_checks c acks out =
@@ -59,10 +53,20 @@ taking_checks c acks out =
     ∷ (ltb (length out) (length_at c (oldest_place c)) ⇒ 16)
     ∷ []
 
-unfoldable pub taking_of : Core → List ℕ → List ℕ → List ℕ → Given (Answered Taken)
-taking_of c acks bytes out =
+-- the unit's next numbers beside it: a refusal leaves them, and the output, as they were
+abbrev pub not_taken : Core → List ℕ → ℕ → Given (Core × Answered Taken)
+not_taken c out a = record { result = (c, Err (refusal_of a)); output = out }
+
+abbrev pub taken_with : Core → List ℕ → List ℕ → Given (Core × Answered Taken)
+taken_with c bytes out =
     let p : ℕ = oldest_place c in
-    giving (taking_checks c acks out) (taken_at c p) (part bytes (48 * p) (length_at c p)) out
+    record {
+      result = (with_order c (without_first c.order), Ok (taken_at c p));
+      output = written out (part bytes (48 * p) (length_at c p));
+    }
+
+unfoldable pub taking_of : Core → List ℕ → List ℕ → List ℕ → Given (Core × Answered Taken)
+taking_of c acks bytes out = decide (taking_checks c acks out) (not_taken c out) (taken_with c bytes out)
 
 -- ---- asking and copying: the length of the frame
 

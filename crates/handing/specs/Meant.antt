@@ -8,15 +8,13 @@ use Rattle.state.specs.View.{look}
 use Rattle.handing.specs.declared.Taken.{Taken}
 use Rattle.handing.specs.Handing.{Given}
 
--- the next unit has the arrays that it had; a refusal leaves it the numbers c too
-module _ (c : Core) (acks bytes frames : List ℕ) where
-  abbrev pub taken_as : List ℕ → Answered Taken → Result
-  taken_as out (Err r) = refusal 3 (look c acks bytes frames) out (number_of r)
-  taken_as out (Ok t) =
-      record { answer = 0; numbers = t.src ∷ t.seq ∷ t.len ∷ []; next = look t.core acks bytes frames; output = out }
+-- the next unit has the arrays that it had, and shows s
+abbrev pub taken_as : State → List ℕ → Answered Taken → Result
+taken_as s out (Err r) = refusal 3 s out (number_of r)
+taken_as s out (Ok t) = record { answer = 0; numbers = t.src ∷ t.seq ∷ t.len ∷ []; next = s; output = out }
 
-  abbrev pub taken_means : Given (Answered Taken) → Result
-  taken_means g = taken_as g.output g.result
+abbrev pub taken_means : List ℕ → List ℕ → List ℕ → Given (Core × Answered Taken) → Result
+taken_means acks bytes frames g = taken_as (look g.result.0 acks bytes frames) g.output g.result.1
 
 -- the unit stays as it was
 module _ (s : State) where

@@ -11,46 +11,48 @@ use answers::Refusal;
 use copy::put_part;
 use framewrite::write_request;
 use lists::without_first;
-use state::{Core, checked, is_unit, own_low};
+use state::{Core, checked, is_unit, own_low, sound};
 use tables;
 
-// The oldest confirmed message: its sender, its number, the length of its data, and the unit without it.
+// The message that is taken: its sender, its number, and the length of its data.
 #[derive(Clone, Copy)]
 pub struct Taken {
     pub src: u8,
     pub seq: u32,
     pub len: usize,
-    pub core: Core,
 }
 
-// Takes the oldest confirmed message: its data stand at the front of the output, and its place is free.
+// Takes the oldest confirmed message: its data stand at the front of the output, and in the unit's next numbers its place
+// is free.
 #[tactic(auto, unfolding(crate::specs::Handing::taking_of))]
 pub fn taking<'a>(
     c: Core,
     acks: &'a [u32],
     bytes: &'a [u8],
     out: &mut [u8],
-) -> Result<Taken, Refusal>
+) -> (Core, Result<Taken, Refusal>)
     ensures { Gives (taking_of c acks.now bytes.now out.old) result out.new }
 {
-    checked(c, acks)?;
+    if !sound(c, acks) {
+        return (c, Err(Refusal::Unsound));
+    }
     if c.order.confirmed == 0 {
-        return Err(Refusal::Nothing);
+        return (c, Err(Refusal::Nothing));
     }
     let p = tables::get_or(&c.order.list, 0, 0);
     let i = p as usize;
     let len = tables::get_or(&c.lens, i, 0) as usize;
     if out.len() < len {
-        return Err(Refusal::OutputTooShort);
+        return (c, Err(Refusal::OutputTooShort));
     }
     put_part(out, bytes, 48 * i, len);
     let order = without_first(c.order);
-    Ok(Taken {
+    let taken = Taken {
         src: p / 16 + 1,
         seq: tables::get_or(&c.seqs, i, 0),
         len,
-        core: Core { order, ..c },
-    })
+    };
+    (Core { order, ..c }, Ok(taken))
 }
 
 // Makes the request for what is missing of unit k, at the front of the output, and gives its length.

@@ -9,7 +9,7 @@ use Rattle.handing.specs.Handing.{Given, asking_of, copying_of}
 use Rattle.handing.specs.Looks.{numbers_of, count_of, to_take_in, free_places_in, kept_numbers_in, missing_in, waiting_in}
 use Rattle.unit.specs.declared.Unit.{Unit}
 use Rattle.unit.specs.declared.Sent.{Sent}
-use Rattle.unit.specs.declared.Taken.{Taken}
+use Rattle.handing.specs.declared.Taken.{Taken}
 use Rattle.unit.specs.Exact.{opened_of, sent_of, arrived_of, taken_of}
 use Rattle.replay.specs.declared.calls.Made.{Made}
 use Rattle.replay.specs.Record.{byte_at, number_at, call_of, x_of, k_of, text_of}

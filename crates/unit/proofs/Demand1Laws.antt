@@ -26,8 +26,7 @@ use Rattle.frame.specs.declared.Data.{Data}
 use Rattle.frame.specs.declared.Frame.{Frame}
 use Rattle.frame.specs.declared.Frame.TheVariants as frame
 use Rattle.frame.specs.Frame.{frame_of, payload_of}
-use Rattle.handing.specs.declared.Taken as handing
-use Rattle.handing.specs.Handing.{taking_of}
+use Rattle.handing.specs.Handing.{Given, not_taken, taken_with, taking_checks, taking_of}
 use Rattle.steps.specs.declared.Resend.{Resend}
 use Rattle.steps.specs.declared.Arrival.{Arrival}
 use Rattle.steps.specs.declared.Arrival.TheVariants.{Asked, Accepted}
@@ -38,9 +37,9 @@ use Rattle.steps.specs.Arrival.{refusing, noted_of, notes, noting, storing, unit
 use Rattle.steps.specs.Sending.{sending_of}
 use Rattle.unit.specs.declared.Unit.{Unit}
 use Rattle.unit.specs.declared.Sent.{Sent}
-use Rattle.unit.specs.declared.Taken.{Taken}
+use Rattle.handing.specs.declared.Taken.{Taken}
 use Rattle.unit.specs.View.{Outcome, view, meant, of_sent, of_arrived, of_handed, of_taken}
-use Rattle.unit.specs.Exact.{with_core, sent_by, sent_of, arrived_by, arrived_of, taken_from, taken_of}
+use Rattle.unit.specs.Exact.{with_core, sent_by, sent_of, arrived_by, arrived_of, taken_of}
 use Rattle.unit.specs.CallContracts.{Opens, Sends, Arrives, Asks, Copies, Takes}
 use Rattle.unit.specs.Demand1.{Stays, Demand1}
 
@@ -148,12 +147,11 @@ sends-demand1 u d out r out' c =
     demand1-with u (sends d out) (of_sent r out') c.means (λ h. unchanged u (sends d out) (answer_of r.1) r.0 (rw c.exact (sent-same u d out (rw c.exact at h))))
 
 taken-same : (u : Unit) (out : List ℕ) → answer_of (taken_of u out).result.1 ≢ 0 → (taken_of u out).result.0 ≡ u
-unfolding taken_of
-taken-same u out = go (taking_of u.core u.acks u.bytes out).result
-  where
-    go : (t : Answered handing.Taken) → answer_of (taken_from u t).1 ≢ 0 → (taken_from u t).0 ≡ u
-    go (Err r) h = refl
-    go (Ok t) h = absurd (h refl)
+unfolding taken_of taking_of
+taken-same u out h =
+    ap (with_core u)
+    (decide-cases (λ (g : Given (Core × Answered Taken)). answer_of g.result.1 ≢ 0 → g.result.0 ≡ u.core) (not_taken u.core out)
+    (taken_with u.core u.bytes out) (taking_checks u.core u.acks out) (λ a r e. refl) (λ p e. absurd (e refl)) h)
 
 pub takes-demand1 : (u : Unit) (out : List ℕ) (r : Unit × Answered Taken) (out' : List ℕ) → Takes u out r out' → Demand1 u (takes out) (of_taken r out')
 takes-demand1 u out r out' c =

@@ -11,7 +11,7 @@ use Rattle.state.specs.declared.Opening.{Opening}
 use Rattle.steps.specs.declared.Resend.{Resend}
 use Rattle.unit.specs.declared.Unit.{Unit}
 use Rattle.unit.specs.declared.Sent.{Sent}
-use Rattle.unit.specs.declared.Taken.{Taken}
+use Rattle.handing.specs.declared.Taken.{Taken}
 use Rattle.unit.specs.CallContracts.{Opens, Sends, Arrives, Asks, Copies, Takes, Looks, Tests}
 
 pub open-determined : (o : Opening) (r q : Unit × Answered ⊤) → Opens o r → Opens o q → r ≡ q

@@ -19,16 +19,16 @@ use Rattle.state.specs.declared.Opening.{Opening}
 use Rattle.state.specs.Opening.{closed_core}
 use Rattle.state.specs.Opening as opening
 use Rattle.state.specs.Soundness.{sound_of}
+use Rattle.state.specs.View.{look}
 use Rattle.state.proofs.OpeningLaws.{OpensSound, opens, refuses, opening-look, opened-sound}
 use Rattle.state.proofs.SoundLaws.{sound-look}
-use Rattle.handing.specs.declared.Taken as handing
 use Rattle.handing.specs.Meant.{taken_as, handed_as}
 use Rattle.steps.specs.declared.Resend.{Resend}
 use Rattle.steps.specs.declared.Arrival.{Arrival}
 use Rattle.steps.specs.declared.Arrival.TheVariants.{Asked, Accepted}
 use Rattle.steps.specs.Arrival.{arrival_of}
 use Rattle.frame.specs.Frame.{payload_of}
-use Rattle.handing.specs.Handing.{Given, asking_of, copying_of}
+use Rattle.handing.specs.Handing.{Given, taking_of, asking_of, copying_of}
 use Rattle.handing.specs.Looks.{shown_as}
 use Rattle.handing.proofs.TakingMeans.{taking-means}
 use Rattle.handing.proofs.AskingMeans.{asking-means}
@@ -40,7 +40,7 @@ use Rattle.steps.proofs.ArrivalMeans.{arrival-means}
 use Rattle.steps.proofs.SendingMeans.{sending-means}
 use Rattle.unit.specs.declared.Unit.{Unit}
 use Rattle.unit.specs.declared.Sent.{Sent}
-use Rattle.unit.specs.declared.Taken.{Taken}
+use Rattle.handing.specs.declared.Taken.{Taken}
 use Rattle.unit.specs.View.{Outcome, view, meant, of_sent, of_arrived, of_handed, of_taken}
 use Rattle.unit.specs.Exact.{empty_with, opened_of, sent_unit, sent_by, sent_of, arrived_by, arrived_of, taken_from, taken_of}
 use Rattle.unit.specs.CallContracts.{SoundAfter, Opens, Sends, Arrives, Asks, Copies, Takes, Looks, Tests}
@@ -75,9 +75,9 @@ opens-unit o r e = subst (Opens o) (sym e) (opens-exactly o)
 -- ---- the calls that hand out
 
 module _ (u : Unit) where
-  taken-as : (t : Answered handing.Taken) (out : List ℕ) → meant (of_taken (taken_from u t) out) ≡ taken_as u.core u.acks u.bytes u.frames out t
-  taken-as (Err r) out = refl
-  taken-as (Ok t) out = refl
+  taken-as : (c : Core) (t : Answered Taken) (out : List ℕ) → meant (of_taken (taken_from u (c, t)) out) ≡ taken_as (look c u.acks u.bytes u.frames) out t
+  taken-as c (Err r) out = refl
+  taken-as c (Ok t) out = refl
 
   handed-as : (r : Answered ℕ) (out : List ℕ) → meant (of_handed u r out) ≡ handed_as (view u) out r
   handed-as (Err r) out = refl
@@ -87,7 +87,12 @@ module _ (u : Unit) where
       → r ≡ (taken_of u out).result → out' ≡ (taken_of u out).output → Takes u out r out'
   unfolding taken_of
   takes-message long out r out' e b =
-      let m : meant (of_taken r out') ≡ rules.take (view u) out = rw (e, b, taken-as) (taking-means u.core u.acks u.bytes u.frames out long) in
+      let g : Given (Core × Answered Taken) = taking_of u.core u.acks u.bytes out in
+      let m : meant (of_taken r out') ≡ rules.take (view u) out =
+      ap (λ (x : Unit × Answered Taken). meant (of_taken x out')) e ∙ taken-as g.result.0 g.result.1 out'
+      ∙ ap (λ (l : List ℕ). taken_as (look g.result.0 u.acks u.bytes u.frames) l g.result.1) b
+      ∙ taking-means u.core u.acks u.bytes u.frames out long
+      in
       record { exact = e; bytes = b; means = m; sound = sound-after u (takes out) (of_taken r out') m }
 
   pub asks-missing : length u.core.req ≡ 8 → (k : ℕ) (out : List ℕ) (r : Answered ℕ) (out' : List ℕ)

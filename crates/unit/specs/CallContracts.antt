@@ -14,7 +14,7 @@ use Rattle.handing.specs.Handing.{asking_of, copying_of}
 use Rattle.handing.specs.Looks.{shown_as}
 use Rattle.unit.specs.declared.Unit.{Unit}
 use Rattle.unit.specs.declared.Sent.{Sent}
-use Rattle.unit.specs.declared.Taken.{Taken}
+use Rattle.handing.specs.declared.Taken.{Taken}
 use Rattle.unit.specs.View.{view, opened_means, meant, of_sent, of_arrived, of_handed, of_taken}
 use Rattle.unit.specs.Exact.{empty_with, opened_of, sent_of, arrived_of, taken_of}
 

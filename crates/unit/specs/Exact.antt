@@ -16,11 +16,10 @@ use Rattle.steps.specs.declared.Sending.{Sending}
 use Rattle.steps.specs.Arrival.{arrival_of}
 use Rattle.steps.specs.Sending.{sending_of}
 use Rattle.steps.specs.Means.{own_frame}
-use Rattle.handing.specs.declared.Taken as handing
+use Rattle.handing.specs.declared.Taken.{Taken}
 use Rattle.handing.specs.Handing.{Given, taking_of}
 use Rattle.unit.specs.declared.Unit.{Unit}
 use Rattle.unit.specs.declared.Sent.{Sent}
-use Rattle.unit.specs.declared.Taken.{Taken}
 
 abbrev pub with_core : Unit → Core → Unit
 with_core u c = record { core = c; acks = u.acks; bytes = u.bytes; frames = u.frames }
@@ -79,11 +78,10 @@ arrived_of u l =
 
 -- ---- take
 
-abbrev pub taken_from : Unit → Answered handing.Taken → Unit × Answered Taken
-taken_from u (Err r) = (u, Err r)
-taken_from u (Ok t) = (with_core u t.core, Ok (record { src = t.src; seq = t.seq; len = t.len }))
+abbrev pub taken_from : Unit → Core × Answered Taken → Unit × Answered Taken
+taken_from u t = (with_core u t.0, t.1)
 
 unfoldable pub taken_of : Unit → List ℕ → Given (Unit × Answered Taken)
 taken_of u out =
-    let g : Given (Answered handing.Taken) = taking_of u.core u.acks u.bytes out in
+    let g : Given (Core × Answered Taken) = taking_of u.core u.acks u.bytes out in
     record { result = taken_from u g.result; output = g.output }

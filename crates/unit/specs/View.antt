@@ -8,7 +8,7 @@ use Rattle.state.specs.View.{look}
 use Rattle.steps.specs.declared.Resend.{Resend}
 use Rattle.unit.specs.declared.Unit.{Unit}
 use Rattle.unit.specs.declared.Sent.{Sent}
-use Rattle.unit.specs.declared.Taken.{Taken}
+use Rattle.handing.specs.declared.Taken.{Taken}
 
 abbrev pub view : Unit → State
 view u = look u.core u.acks u.bytes u.frames

@@ -6,16 +6,18 @@ ghost use Rattle.handing.specs.Looks.{count_alone, row, to_take_in, free_places_
 ghost use Rattle.unit.specs.View.{view};
 ghost use Rattle.unit.specs.CallContracts.{Opens, Sends, Arrives, Asks, Copies, Takes, Looks, Tests};
 
-use answers::Refusal;
+pub use answers::Refusal;
 use frame;
 use framewrite;
 use handing;
+pub use handing::Taken;
 use handing::looks;
-use handing::looks::Numbers;
+pub use handing::looks::Numbers;
 use state;
 use state::{Core, Opening};
 use steps;
-use steps::{Arrival, Resend};
+use steps::Arrival;
+pub use steps::Resend;
 use store;
 use store::arrays;
 
@@ -31,14 +33,6 @@ pub struct Unit {
 // Number and length of the frame that was sent.
 #[derive(Clone, Copy)]
 pub struct Sent {
-    pub seq: u32,
-    pub len: usize,
-}
-
-// Sender, number and data length of the message taken.
-#[derive(Clone, Copy)]
-pub struct Taken {
-    pub src: u8,
     pub seq: u32,
     pub len: usize,
 }
@@ -143,19 +137,9 @@ impl Unit {
     pub fn take(mut self, out: &mut [u8]) -> (Unit, Result<Taken, Refusal>)
         ensures { Takes self out.old result out.new }
     {
-        let c = self.core;
-        match handing::taking(c, &self.acks, &self.bytes, out) {
-            Err(refusal) => (self, Err(refusal)),
-            Ok(t) => {
-                self.core = t.core;
-                let taken = Taken {
-                    src: t.src,
-                    seq: t.seq,
-                    len: t.len,
-                };
-                (self, Ok(taken))
-            }
-        }
+        let (core, taken) = handing::taking(self.core, &self.acks, &self.bytes, out);
+        self.core = core;
+        (self, taken)
     }
 
     // How many messages can be taken. Looks refuse with 1 where the unit is not sound, and with 5 where k is no unit.

@@ -3,7 +3,7 @@ use native.Mathlib.Omega.{arith}
 use mathlib.Core.Path.{◌≡◌, sym, ap, ◌∙◌}
 use Prim.Native.Nat.{◌+◌, ◌-◌}
 use Rattle.answers.specs.Answers.{Answered}
-use Rattle.unit.specs.declared.Taken.{Taken}
+use Rattle.handing.specs.declared.Taken.{Taken}
 use Rattle.drive.specs.Run.{all_taken, all_after}
 use Rattle.drive.proofs.Taking.{take-given, taken_none, taken-stop, taken_more}
 use Rattle.drive.proofs.all_taken.Goals as goal

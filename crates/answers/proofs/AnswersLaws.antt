@@ -1,9 +1,8 @@
 -- Refusals and the numbers 1 to 18 are one to one, and what checks with such numbers decide says the same of both.
-use Rattle.std.specs.Prelude.{Bool, true, false, cond, List, [], ◌∷◌, ◌≡◌, ◌≢◌, ⊤, ℕ, Ok, Err}
+use Rattle.std.specs.Prelude.{Bool, true, false, cond, List, [], ◌∷◌, ◌≡◌, ⊤, ℕ, Ok, Err}
 use Rattle.std.specs.Result.{IsErrAnd}
-use native.Mathlib.Omega.{arith}
 use mathlib.Core.Bool.{true≢false}
-use mathlib.Core.Path.{refl, sym, ap, subst, ◌∙◌}
+use mathlib.Core.Path.{refl, ap, subst, ◌∙◌}
 use Rattle.rules.specs.Calls.{Check, decide}
 use Rattle.rules.proofs.CallsLaws.{Passed, Refused, now, later}
 use Rattle.rules.proofs.AlikeLaws.{Alike, decide-alike}
@@ -31,26 +30,6 @@ refusal-number WindowShut = refl
 refusal-number OutputTooShort = refl
 refusal-number ForAnother = refl
 refusal-number Nothing = refl
-
-pub number-not_zero : (r : Refusal) → number_of r ≢ 0
-number-not_zero Unsound = λ h. omega arith
-number-not_zero CannotOpen = λ h. omega arith
-number-not_zero NotAFrame = λ h. omega arith
-number-not_zero OtherGroup = λ h. omega arith
-number-not_zero NoSuchUnit = λ h. omega arith
-number-not_zero OwnFrame = λ h. omega arith
-number-not_zero Impossible = λ h. omega arith
-number-not_zero AcceptedBefore = λ h. omega arith
-number-not_zero EarlierMissing = λ h. omega arith
-number-not_zero NamesMissing = λ h. omega arith
-number-not_zero AckFell = λ h. omega arith
-number-not_zero NoPlace = λ h. omega arith
-number-not_zero TooLong = λ h. omega arith
-number-not_zero NoNumberLeft = λ h. omega arith
-number-not_zero WindowShut = λ h. omega arith
-number-not_zero OutputTooShort = λ h. omega arith
-number-not_zero ForAnother = λ h. omega arith
-number-not_zero Nothing = λ h. omega arith
 
 -- each check refuses with a number that a refusal has
 abbrev pub Numbered : List Check → Type 0
@@ -81,32 +60,6 @@ pub passed_on : {A : Type 0} (q : Answered A) (e : Refusal) → IsErrAnd q (λ d
 passed_on (Ok x) e p = search
 passed_on (Err d) e p = ap (λ (z : Refusal). Err z) p
 
-pub same_error : {A : Type 0} {e d : Refusal} → ◌≡◌ {A = Answered A} (Err e) (Err d) → e ≡ d
-same_error h = search
-
--- ---- checks made by a function of their own: what it answers tells what they decide
-
-module _ {B : Type 0} (refused : ℕ → B) (done : B) where
-  pub ok-decides : (l : List Check) (x : ⊤) → ◌≡◌ {A = Answered ⊤} (judged l tt) (Ok x) → decide l refused done ≡ done
-  ok-decides [] x h = refl
-  ok-decides (c ∷ l) x h = go c.holds (ok-decides l x) h
-    where
-      go : (t : Bool) → (◌≡◌ {A = Answered ⊤} (judged l tt) (Ok x) → decide l refused done ≡ done)
-          → ◌≡◌ {A = Answered ⊤} (cond t (Err (refusal_of c.answer)) (judged l tt)) (Ok x)
-          → cond t (refused c.answer) (decide l refused done) ≡ done
-      go true f z = search
-      go false f z = f z
-
-  pub err-decides : (l : List Check) → Numbered l → (e : Refusal) → ◌≡◌ {A = Answered ⊤} (judged l tt) (Err e) → decide l refused done ≡ refused (number_of e)
-  err-decides [] n e h = search
-  err-decides (c ∷ l) n e h = go c.holds (err-decides l n.1 e) h
-    where
-      go : (t : Bool) → (◌≡◌ {A = Answered ⊤} (judged l tt) (Err e) → decide l refused done ≡ refused (number_of e))
-          → ◌≡◌ {A = Answered ⊤} (cond t (Err (refusal_of c.answer)) (judged l tt)) (Err e)
-          → cond t (refused c.answer) (decide l refused done) ≡ refused (number_of e)
-      go true f z = ap refused (sym n.0 ∙ ap number_of (same_error z))
-      go false f z = f z
-
 pub err_not_ok : {A : Type 0} {e : Refusal} {x : A} → ◌≡◌ {A = Answered A} (Err e) (Ok x) → ⊥
 err_not_ok h = true≢false (let z : true ≡ false = search in z)
 
@@ -120,15 +73,6 @@ done_passes done (c ∷ l) x h = go c.holds refl (done_passes done l x) h
 
 pub same_ok : {A : Type 0} {x y : A} → ◌≡◌ {A = Answered A} (Ok x) (Ok y) → x ≡ y
 same_ok h = search
-
--- a call judged by these checks
-module _ {A : Type 0} (done : A) (l : List Check) where
-  pub judged-ok : (x : ⊤) → ◌≡◌ {A = Answered ⊤} (judged l tt) (Ok x) → Ok done ≡ judged l done
-  judged-ok x h = sym (ok-decides _ _ l x h)
-
-  pub judged-err : Numbered l → (e : Refusal) → ◌≡◌ {A = Answered ⊤} (judged l tt) (Err e) → (q : Answered A) → IsErrAnd q (λ d. d ≡ e) → q ≡ judged l done
-  judged-err n e h q p =
-      passed_on q e p ∙ ap (λ (d : Refusal). Err d) (sym (refusal-number e)) ∙ sym (err-decides (λ a. Err (refusal_of a)) (Ok done) l n e h)
 
 pub refused-numbered : (a : ℕ) (l : List Check) → Numbered l → Refused a l → number_of (refusal_of a) ≡ a
 refused-numbered a [] n r = elim r [ ]

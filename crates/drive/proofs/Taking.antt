@@ -1,36 +1,39 @@
 -- Taking everything: a refusal ends it, and a message leaves one fewer to take.
 use mathlib.Core.List.{List}
-use mathlib.Core.Logic.{◌≢◌}
 use mathlib.Core.Path.{◌≡◌, refl, ap₂}
 use Prim.Native.Nat.{ℕ, zero, suc, ◌-◌, ◌<◌}
 use native.Mathlib.Omega.{arith}
-use borrow.Author.Tests.{eq-eqb, ne_eqb}
+use Rattle.std.specs.Prelude.{Ok, Err}
+use Rattle.answers.specs.declared.Refusal.{Refusal}
+use Rattle.answers.specs.Answers.{Answered}
 use Rattle.handing.specs.Handing.{Given}
 use Rattle.unit.specs.declared.Unit.{Unit}
 use Rattle.unit.specs.declared.Taken.{Taken}
 use Rattle.unit.specs.CallContracts.{Takes}
 use Rattle.unit.specs.Exact.{taken_of}
 use Rattle.drive.specs.declared.Summed.{Summed}
-use Rattle.drive.specs.Run.{with_message, all_taken}
+use Rattle.drive.specs.Run.{with_message, all_taken, all_after}
 
 -- a take as its contract has it
-pub take-given : (u : Unit) (out : List ℕ) (r : Taken) (out' : List ℕ) → Takes u out r out' → ◌≡◌ {A = Given Taken} (record { result = r; output = out' }) (taken_of u out)
-take-given u out r out' e = ap₂ (λ (a : Taken) (l : List ℕ). record { result = a; output = l }) e.exact e.bytes
+pub take-given : (u : Unit) (out : List ℕ) (r : Unit × Answered Taken) (out' : List ℕ) → Takes u out r out'
+    → ◌≡◌ {A = Given (Unit × Answered Taken)} (record { result = r; output = out' }) (taken_of u out)
+take-given u out r out' e = ap₂ (λ (a : Unit × Answered Taken) (l : List ℕ). record { result = a; output = l }) e.exact e.bytes
 
-module _ (g : Given Taken) (s : ℕ) where
-  pub taken_none : (m : ℕ) → m ≡ 0 → ◌≡◌ {A = Summed} (record { sum = s; unit = g.result.unit }) (all_taken m g s)
+module _ (u : Unit) (out : List ℕ) (s : ℕ) where
+  pub taken_none : (m : ℕ) (t : Answered Taken) → m ≡ 0 → ◌≡◌ {A = Summed} (record { sum = s; unit = u }) (all_taken m u t out s)
   unfolding all_taken
-  taken_none m h = rw h
+  taken_none m t h = rw h
 
-  pub taken-stop : (m : ℕ) → g.result.answer ≢ 0 → all_taken m g s ≡ all_taken 0 g s
+  pub taken-stop : (m : ℕ) (t : Answered Taken) (r : Refusal) → t ≡ Err r
+      → ◌≡◌ {A = Summed} (record { sum = s; unit = u }) (all_taken m u t out s)
   unfolding all_taken
-  taken-stop zero h = refl
-  taken-stop (suc m) h = rw (ne_eqb _ _ h)
+  taken-stop zero t r h = refl
+  taken-stop (suc m) t r h = rw h
 
-  pub taken_more : (m : ℕ) → 0 < m → g.result.answer ≡ 0
-      → all_taken m g s ≡ all_taken (m - 1) (taken_of g.result.unit g.output) (with_message s g.result.src g.result.seq g.result.len g.output)
+  pub taken_more : (m : ℕ) (t : Taken) → 0 < m
+      → all_taken m u (Ok t) out s ≡ all_after (m - 1) (with_message s t.src t.seq t.len out) (taken_of u out)
   unfolding all_taken
-  taken_more zero p h = absurd (omega arith)
-  taken_more (suc m) p h =
+  taken_more zero t p = absurd (omega arith)
+  taken_more (suc m) t p =
       let less : suc m - 1 ≡ m = omega arith in
-      rw (eq-eqb _ _ h, less)
+      rw less

@@ -1,5 +1,6 @@
 -- A run of a lossless group, by the exact results of each call on a unit, and the sum over what was taken.
-use Rattle.std.specs.Prelude.{Bool, true, false, cond, List, [], ◌∷◌, ℕ, zero, suc, ◌+◌, ◌*◌, ◌/◌, ◌%◌, eqb, get_or, set, take, replicate}
+use Rattle.std.specs.Prelude.{Bool, true, false, List, [], ◌∷◌, ℕ, zero, suc, ◌+◌, ◌*◌, ◌/◌, ◌%◌, eqb, get_or, set, take, replicate, Ok, Err}
+use Rattle.answers.specs.Answers.{Answered}
 use Rattle.handing.specs.Handing.{Given}
 use Rattle.unit.specs.declared.Unit.{Unit}
 use Rattle.unit.specs.declared.Taken.{Taken}
@@ -20,33 +21,36 @@ with_message s src seq len out = with_bytes (mixed (mixed (mixed s src) seq) len
 
 -- ---- taking
 
--- the message g of a take goes into the sum, and so do those after it, at most so many
-unfoldable pub all_taken : ℕ → Given Taken → ℕ → Summed
-all_taken zero g s = record { sum = s; unit = g.result.unit }
-all_taken (suc m) g s =
-    let t : Taken = g.result in
-    cond (eqb t.answer 0)
-    (all_taken m (taken_of t.unit g.output) (with_message s t.src t.seq t.len g.output))
-    (record { sum = s; unit = t.unit })
+-- u has taken t, its data in out: the message goes into the sum, and so do those after it, at most so many
+unfoldable pub all_taken : ℕ → Unit → Answered Taken → List ℕ → ℕ → Summed
+all_taken zero u t out s = record { sum = s; unit = u }
+all_taken (suc m) u (Err r) out s = record { sum = s; unit = u }
+all_taken (suc m) u (Ok t) out s =
+    let g : Given (Unit × Answered Taken) = taken_of u out in
+    all_taken m g.result.0 g.result.1 g.output (with_message s t.src t.seq t.len out)
+
+-- the take g, and all those after it
+abbrev pub all_after : ℕ → ℕ → Given (Unit × Answered Taken) → Summed
+all_after m s g = all_taken m g.result.0 g.result.1 g.output s
 
 -- everything that u may show
 abbrev pub shown : Unit → ℕ → Summed
-shown u s = all_taken 128 (taken_of u (replicate 16 0)) s
+shown u s = all_after 128 s (taken_of u (replicate 16 0))
 
 -- ---- a visit
 
 -- u sends the data, or the first len bytes of the frame arrive at u; the frame is the output
 unfoldable pub visit_of : Unit → Bool → List ℕ → List ℕ → ℕ → ℕ → Given Summed
 visit_of u true text frame len s =
-    record { result = shown (sent_of u text frame).result.unit s; output = (sent_of u text frame).output }
+    record { result = shown (sent_of u text frame).result.0 s; output = (sent_of u text frame).output }
 visit_of u false text frame len s =
-    record { result = shown (arrived_of u (take len frame)).unit s; output = frame }
+    record { result = shown (arrived_of u (take len frame)).0 s; output = frame }
 
 -- ---- a run
 
 -- unit k of the group
 abbrev pub unit_of : ℕ → ℕ → ℕ → Unit
-unit_of n w k = (opened_of (record { me = k; n = n; w = w; cid = 1; first = replicate 8 1 })).unit
+unit_of n w k = (opened_of (record { me = k; n = n; w = w; cid = 1; first = replicate 8 1 })).0
 
 -- eight units, the first k of them opened in turn
 abbrev pub opened_units : ℕ → ℕ → ℕ → List Unit

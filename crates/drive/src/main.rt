@@ -48,15 +48,15 @@ fn all_taken(first: Unit, before: u32) -> Summed
 {
     let mut sum = before;
     let mut out = [0u8; 16];
-    let mut t = first.take(&mut out);
+    let (mut unit, mut taken) = first.take(&mut out);
     for count in 0..Unit::PLACES {
-        if t.answer != 0 {
-            return Summed { sum, unit: t.unit };
-        }
+        let Ok(t) = taken else {
+            return Summed { sum, unit };
+        };
         sum = with_message(sum, t.src, t.seq, t.len, &out);
-        t = t.unit.take(&mut out);
+        (unit, taken) = unit.take(&mut out);
     }
-    Summed { sum, unit: t.unit }
+    Summed { sum, unit }
 }
 
 // The unit sends the data, or the frame arrives there, and everything is taken.
@@ -67,25 +67,25 @@ fn visited(u: Unit, sends: bool, text: &[u8], frame: &mut [u8], len: usize, sum:
     ensures { Gives (visit_of u sends text.now frame.old len sum) result frame.new }
 {
     if sends {
-        let s = u.send(text, frame);
-        return all_taken(s.unit, sum);
+        let (unit, _) = u.send(text, frame);
+        return all_taken(unit, sum);
     }
-    let a = u.arrive(&frame[..len]);
-    all_taken(a.unit, sum)
+    let (unit, _) = u.arrive(&frame[..len]);
+    all_taken(unit, sum)
 }
 
 // Unit `me` of a group: CID 1, first numbers 1; closed where there is no such unit.
 fn opened_unit(me: u8, n: u8, w: u8) -> Unit
     ensures { result ≡ unit_of n w me }
 {
-    Unit::open(Opening {
+    let (unit, _) = Unit::open(Opening {
         me,
         n,
         w,
         cid: 1,
         first: [1; 8],
-    })
-    .unit
+    });
+    unit
 }
 
 // Eight units, of which the first n are open.

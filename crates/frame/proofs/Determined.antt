@@ -9,8 +9,9 @@ use Rattle.frame.specs.declared.Frame.{Frame}
 use Rattle.std.specs.Prelude.{Option, Result}
 use Rattle.frame.specs.declared.table.Row.{Row}
 use Rattle.frame.specs.declared.table.Kind.{Kind}
+use Rattle.frame.specs.declared.table.Tag.{Tag}
 use Rattle.frame.specs.declared.table.UnknownKind.{UnknownKind}
-use Rattle.frame.specs.Table.{line_of, code_of, kind_of, is_of, has, length_fits}
+use Rattle.frame.specs.Table.{line_of, tag_number, code_of, kind_of, is_of, has, length_fits}
 use Rattle.frame.specs.Frame.{frame_of, payload_of}
 use Rattle.frame.specs.Export.{Exported}
 
@@ -29,6 +30,9 @@ row-of-determined t r q a b = one_value a b
 
 pub is-of-determined : (x : Row) (k : Kind) (r q : Bool) → r ≡ is_of x k → q ≡ is_of x k → r ≡ q
 is-of-determined x k r q a b = one_value a b
+
+pub tag-number-determined : (t : Tag) (r q : ℕ) → r ≡ tag_number t → q ≡ tag_number t → r ≡ q
+tag-number-determined t r q a b = one_value a b
 
 -- the number of a kind, and the kind of a number
 pub code-determined : (k : Kind) (r q : ℕ) → r ≡ code_of k → q ≡ code_of k → r ≡ q

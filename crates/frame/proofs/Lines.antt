@@ -3,7 +3,7 @@ use mathlib.Core.Bool.{Bool, true, false, cond, and-false}
 use mathlib.Core.Logic.{◌≢◌}
 use mathlib.Core.List.{List, [], ◌∷◌, map}
 use mathlib.Core.Path.{◌≡◌, refl, sym, ap, ◌∙◌}
-use Prim.Native.Nat.{ℕ, ◌+◌, ◌-◌, ◌%◌, ◌≤◌, ◌<◌}
+use Prim.Native.Nat.{ℕ, zero, suc, ◌+◌, ◌-◌, ◌%◌, ◌≤◌, ◌<◌}
 use native.Mathlib.Omega.{arith}
 use lib.Dec.{eqb}
 use lib.ListN.{length, get_or, get_or-map}
@@ -19,7 +19,9 @@ use Rattle.frame.specs.declared.table.Kind.TheVariants.{Data, Request}
 use Rattle.frame.specs.declared.table.UnknownKind.{UnknownKind}
 use Rattle.std.specs.Prelude.{Result, Ok, Err, Some, None}
 use Rattle.std.specs.Result.{result_ok}
-use Rattle.frame.specs.Table.{line_of, code_of, kind_of, is_of, has, length_fits}
+use Rattle.frame.specs.declared.table.Tag.{Tag}
+use Rattle.frame.specs.declared.table.TheConstants.{TAGS}
+use Rattle.frame.specs.Table.{line_of, tag_number, code_of, kind_of, is_of, has, length_fits}
 
 -- what the table gives for a tag, and where it has no line, a line of no kind
 pub row-got : (t : ℕ) → 0 < t → get_or (map line_of table) (t - 1) (line_of no_row) ≡ line_of (row_of table t)
@@ -69,9 +71,10 @@ module _ (t : ℕ) where
   has-of Data = refl
   has-of Request = refl
 
-  -- the test of a row is that of its tag
-  pub has-row : (k : Kind) (r : Row) → r ≡ line_of (row_of table t) → (b : Bool) → b ≡ is_of r k → (x : Bool) → b ≡ x → has t (code_of k) ≡ x
-  has-row k r e b is x h = sym (has-of k) ∙ ap (λ q. is_of q k) (sym e) ∙ sym is ∙ h
+  -- the test of a row is that of its tag, of whatever number u
+  pub has-row : (u : ℕ) → u ≡ t → (k : Kind) (r : Row) → r ≡ line_of (row_of table u) → (b : Bool) → b ≡ is_of r k → (x : Bool) → b ≡ x → has t (code_of k) ≡ x
+  has-row u n k r e b is x h =
+      sym (has-of k) ∙ ap (λ i. is_of (line_of (row_of table i)) k) (sym n) ∙ ap (λ q. is_of q k) (sym e) ∙ sym is ∙ h
 
   has-no-other : (k : ℕ) → k ≢ 1 → k ≢ 2 → has t k ≡ false
   unfolding has
@@ -84,6 +87,20 @@ module _ (t : ℕ) where
   has-none n e = let other = number-of-none n e in sym (has-no-other n other.0 other.1)
 
 -- ---- a loop over the table's tags
+
+-- the tag at a place is the place's number from 1 on
+pub tag-at : (i : ℕ) → i < 10 → (d : Tag) → tag_number (get_or TAGS i d) ≡ i + 1
+tag-at zero h d = refl
+tag-at (suc zero) h d = refl
+tag-at (suc (suc zero)) h d = refl
+tag-at (suc (suc (suc zero))) h d = refl
+tag-at (suc (suc (suc (suc zero)))) h d = refl
+tag-at (suc (suc (suc (suc (suc zero))))) h d = refl
+tag-at (suc (suc (suc (suc (suc (suc zero)))))) h d = refl
+tag-at (suc (suc (suc (suc (suc (suc (suc zero))))))) h d = refl
+tag-at (suc (suc (suc (suc (suc (suc (suc (suc zero)))))))) h d = refl
+tag-at (suc (suc (suc (suc (suc (suc (suc (suc (suc zero))))))))) h d = refl
+tag-at (suc (suc (suc (suc (suc (suc (suc (suc (suc (suc i)))))))))) h d = absurd (omega arith)
 
 ten : length table ≡ 10
 unfolding table

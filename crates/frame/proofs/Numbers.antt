@@ -9,7 +9,7 @@ use native.Mathlib.Nat.{pow-le-pow_right}
 use native.Mathlib.Omega.{arith}
 use Rattle.std.proofs.lemmas.List.{get_or-take}
 use lib.ListN.{length, get_or, take, drop, set, replicate, length-append, length-take, length-replicate}
-use lib.Seq.{take_at, take_all, take-suc, get_or-drop, drop-drop, set-append_seam}
+use lib.Seq.{take_at, take-suc, get_or-drop, drop-drop, set-append_seam}
 use borrow.Author.Tests.{lt-ltb, ne_eqb}
 use Rattle.rules.specs.Bytes.{number, all_numbers}
 use Rattle.rules.specs.Message.{no_zero}
@@ -24,9 +24,6 @@ pub record Summed (t : List ℕ) (x j : ℕ) : Type 0 where
   pub is : x ≡ number (take j t)
   pub small : x < 256 ^ j
 
-pub none-summed : (t : List ℕ) → Summed t 0 0
-none-summed t = record { is = refl; small = omega arith }
-
 module _ (t : List ℕ) (x j : ℕ) (r : Summed t x j) where
   pub small-yet : length t ≤ 4 → j < length t → x < 16777216
   small-yet h g = omega (arith, r.small, pow-le-pow_right {n = 256} (omega arith) {i = j} {j = 3} (omega arith))
@@ -38,9 +35,6 @@ module _ (t : List ℕ) (x j : ℕ) (r : Summed t x j) where
         is = rw (next, take-suc t j 0 h, number-++) (omega (arith, r.is));
         small = rw next (omega (arith, r.small));
       }
-
-  pub all-summed : j ≡ length t → x ≡ number t
-  all-summed e = r.is ∙ ap number (take_all j t (omega arith))
 
 pub part-byte : (s : List ℕ) (p n j : ℕ) → j < length (take n (drop p s)) → (b : ℕ) → b ≡ get_or (take n (drop p s)) j 0
     → ((i : ℕ) → get_or s i 0 < 256) → b < 256
@@ -92,9 +86,6 @@ no-head s p h = rw h
 module _ (s : List ℕ) (p x : ℕ) (a : List ℕ) (ex : x ≡ number (take 2 (drop p s))) (ea : a ≡ eight (all_numbers 4 (x / 4) (drop (p + 2) s))) where
   count : length (all_numbers 4 (x / 4) (drop (p + 2) s)) ≡ x / 4
   count = length-all_numbers 4 (x / 4) (drop (p + 2) s)
-
-  pub length-all : x / 4 ≤ 8 → length a ≡ 8
-  length-all h = ap length ea ∙ length-eight (all_numbers 4 (x / 4) (drop (p + 2) s)) (omega (arith, count))
 
   pub some-zero : (b : Bool) → b ≡ list_any (λ y. nat_eq y 0) (take (x / 4) a) → no_zero (acks_at s p) ≡ not b
   some-zero b eb =

@@ -1,9 +1,10 @@
 // House fields in a slice of bytes.
 ghost use Rattle.std.specs.Prelude.{◌≡◌};
+ghost use Rattle.frame.specs.Table.{tag_number};
 ghost use Rattle.frame.specs.Field.{field_at, part_at};
 
 use crate::number::number_at;
-use crate::table::length_fits;
+use crate::table::Tag;
 
 // A field: its content stands from start up to end.
 #[derive(Clone, Copy)]
@@ -13,15 +14,15 @@ pub struct Field {
 }
 
 // The field of this tag that stands whole at a place, its length as the table says.
-pub fn field_at(s: &[u8], at: usize, tag: u8) -> Option<Field>
-    ensures { result ≡ field_at s.now at tag }
+pub fn field_at(s: &[u8], at: usize, tag: Tag) -> Option<Field>
+    ensures { result ≡ field_at s.now at (tag_number tag) }
 {
-    if s.len() < 3 || s.len() - 3 < at || s[at] != tag {
+    if s.len() < 3 || s.len() - 3 < at || s[at] != tag.into() {
         return None;
     }
     let start = at + 3;
     let n = number_at(s, at + 1, 2) as usize;
-    if !length_fits(tag, n) || s.len() - start < n {
+    if !tag.length_fits(n) || s.len() - start < n {
         return None;
     }
     Some(Field {

@@ -19,6 +19,7 @@ use reader::{content, well_formed};
 use table::Kind;
 
 // What frames of both kinds say: CID, SRC, and ACK: n of the eight, the others 0.
+// Kept: n beside the eight, since there is no heap (a rule of the project) and C is handed all eight (the C interface).
 #[derive(Clone, Copy)]
 pub struct Head {
     pub cid: u32,

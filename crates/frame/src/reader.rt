@@ -2,12 +2,12 @@
 // slice and numbers, do the work.
 ghost use Rattle.std.specs.Prelude.{◌≡◌};
 ghost use Rattle.rules.specs.Fields.{table, tags_of, fits};
-ghost use Rattle.frame.specs.Table.{code_of};
+ghost use Rattle.frame.specs.Table.{tag_number, code_of};
 ghost use Rattle.frame.specs.Field.{field_at, part_at};
 ghost use Rattle.frame.specs.Reader.{begun, next_of, after_of, part_of};
 
 use crate::field::{Field, field_at, part_at};
-use crate::table::{Kind, row_of};
+use crate::table::{Kind, TAGS, Tag};
 
 #[derive(Clone, Copy)]
 pub struct Reader<'a> {
@@ -24,8 +24,8 @@ impl<'a> Reader<'a> {
     }
 
     // The field of this tag that stands at the reader's place.
-    fn next(self, tag: u8) -> Option<Field>
-        ensures { result ≡ next_of self.entry tag }
+    fn next(self, tag: Tag) -> Option<Field>
+        ensures { result ≡ next_of self.entry (tag_number tag) }
     {
         field_at(self.frame, self.at, tag)
     }
@@ -60,8 +60,8 @@ pub fn well_formed(s: &[u8], kind: Kind) -> bool
     ensures { result ≡ fits table (tags_of table (code_of kind)) s.now }
 {
     let mut reader = Reader::new(s);
-    for tag in 1..=10 {
-        if row_of(tag).is_of(kind) {
+    for tag in TAGS {
+        if tag.row().is_of(kind) {
             let Some(field) = reader.next(tag) else {
                 return false;
             };

@@ -1,7 +1,7 @@
 // The ten tags of 01: what reader and writer know of each stands here and nowhere else.
 ghost use Rattle.std.specs.Prelude.{◌≡◌};
 ghost use Rattle.rules.specs.Fields.{table, row_of};
-ghost use Rattle.frame.specs.Table.{line_of, code_of, kind_of, is_of, has, length_fits};
+ghost use Rattle.frame.specs.Table.{line_of, tag_number, code_of, kind_of, is_of, has, length_fits};
 
 // What a frame is, by its number in tag 2.
 #[derive(Clone, Copy, Debug, PartialEq, Eq)]
@@ -39,8 +39,46 @@ impl TryFrom<u8> for Kind {
     }
 }
 
+// The ten tags, by their numbers: the byte that a field begins with.
+#[derive(Clone, Copy)]
+pub enum Tag {
+    Edition = 1,
+    Kind,
+    Cid,
+    Src,
+    Seq,
+    Ack,
+    Buf,
+    Lsrc,
+    Lseq,
+    Data,
+}
+
+// In the order in which they stand in a frame.
+pub const TAGS: [Tag; 10] = [
+    Tag::Edition,
+    Tag::Kind,
+    Tag::Cid,
+    Tag::Src,
+    Tag::Seq,
+    Tag::Ack,
+    Tag::Buf,
+    Tag::Lsrc,
+    Tag::Lseq,
+    Tag::Data,
+];
+
+impl From<Tag> for u8 {
+    ghost from_gives = { λ tag number. number ≡ tag_number tag };
+
+    fn from(tag: Tag) -> u8 {
+        tag as u8
+    }
+}
+
 // The content of a field is numbers of `width` bytes each; its length in bytes is from `least` to `greatest`; data
 // messages have the field, requests have it.
+// Kept: two flags, no plainer as one field: a set of kinds would be an enum of four names, Neither to Both.
 #[derive(Clone, Copy)]
 pub struct Row {
     pub width: u8,
@@ -155,6 +193,7 @@ impl Row {
 }
 
 // The line of a tag; for tag 0 and past the table, the line of no kind.
+// Kept: a Row and no Option, since row_of, has_tag and length_fits give an answer for every tag (docs/CONTRACTS.md).
 pub fn row_of(tag: u8) -> Row
     ensures { result ≡ line_of (row_of table tag) }
 {
@@ -164,7 +203,24 @@ pub fn row_of(tag: u8) -> Row
     TABLE.get(tag as usize - 1).copied().unwrap_or(NONE)
 }
 
+impl Tag {
+    // The line of the tag.
+    pub fn row(self) -> Row
+        ensures { result ≡ line_of (row_of table (tag_number self)) }
+    {
+        row_of(self.into())
+    }
+
+    // A field of the tag can be n bytes long.
+    pub fn length_fits(self, n: usize) -> bool
+        ensures { result ≡ length_fits (tag_number self) n }
+    {
+        length_fits(self.into(), n)
+    }
+}
+
 // Frames of this kind have this tag.
+// Kept: any number for the kind, since has_tag answers for each (docs/CONTRACTS.md); is_of takes a Kind.
 pub fn has_tag(tag: u8, kind: u8) -> bool
     ensures { result ≡ has tag kind }
 {

@@ -25,7 +25,7 @@ use Rattle.rules.specs.Calls.{Check, written}
 use Rattle.rules.proofs.CallsLaws.{Passed}
 use Rattle.answers.specs.Answers.{judged, refusal_of}
 use Rattle.answers.specs.declared.Refusal.{Refusal}
-use Rattle.answers.specs.declared.Refusal.TheVariants.{NoSuchUnit, TooLong, OutputTooShort}
+use Rattle.answers.specs.declared.Refusal.TheVariants.{TooLong, OutputTooShort}
 use Rattle.frame.specs.declared.table.Kind.TheVariants.{Data, Request as Request'}
 use Rattle.std.specs.Prelude.{Ok, Err}
 
@@ -50,9 +50,6 @@ module _ (r : Row) (e : r ≡ line_of (row_of table 6)) (n : ℕ) where
   most-8 : r.greatest / r.width ≡ 8
   unfolding table row_of
   most-8 = ap (λ (x : Row). x.greatest / x.width) e
-
-  pub few_bytes : n ≤ r.greatest / r.width → r.width * n ≤ 32
-  few_bytes h = rw four (omega (arith, most-8))
 
   pub too_many : r.greatest / r.width < n → false ≡ between 2 8 n
   too_many h = sym (not-true (between 2 8 n) (λ b. omega (arith, between-high 2 8 n b, most-8)))
@@ -82,9 +79,6 @@ text-over d f = go (lt? 48 d)
 -- ---- length_of: the checks of both kinds
 
 module _ (o n d room : ℕ) (x : ℕ) where
-  pub refuses-5 : between 2 8 n ≡ false → Err NoSuchUnit ≡ judged (frame_checks o n d room) x
-  refuses-5 b = rw b
-
   module _ (b : between 2 8 n ≡ true) where
     pub refuses-13 : length_fits 10 d ≡ false → Err TooLong ≡ judged (frame_checks o n d room) x
     refuses-13 f = rw (b, lt-ltb 48 d (text-over d f))

@@ -4,7 +4,7 @@ use mathlib.Core.Path.{◌≡◌, refl, sym, ap, ◌∙◌}
 use Prim.Native.Nat.{ℕ, zero, suc, ◌+◌, ◌-◌, ◌*◌, ◌/◌, ◌%◌, ◌^◌, ◌≤◌, ◌<◌}
 use native.Mathlib.Omega.{arith}
 use lib.ListN.{length, get_or, take, drop, length-append}
-use lib.Seq.{sets, take_all, drop-cons, drop-length}
+use lib.Seq.{sets, take_all, drop-cons}
 use borrow.Rule.Slice.PartMut.{put_mid}
 use Rattle.std.specs.Int.{w32, to_be_bytes}
 use Rattle.frame.proofs.Handing.{over-sets}
@@ -84,8 +84,3 @@ module _ (d₀ : List ℕ) (at w : ℕ) (xs d : List ℕ) (i to : ℕ) (r : List
               ∙ ap (sets d to) (sym bytes_left)
               ∙ r.rest;
         }
-
-  pub all_listed : length xs ≤ i → d ≡ sets d₀ at (all_bytes w xs)
-  all_listed h =
-      let e : i ≡ length xs = omega (arith, r.count) in
-      ap (λ l. sets d to (all_bytes w l)) (sym (ap (λ k. drop k xs) e ∙ drop-length xs)) ∙ r.rest

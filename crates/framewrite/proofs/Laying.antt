@@ -13,8 +13,7 @@ use Rattle.rules.specs.Maps.{all}
 use Rattle.rules.specs.Fields.{Row as Line, table, row_of, field}
 use Rattle.rules.specs.Lawful.{Each}
 use Rattle.rules.proofs.BytesLaws.{length-all_bytes, all_bytes-one}
-use Rattle.rules.proofs.FieldsLaws.{all-row_of, usable-row_of}
-use Rattle.rules.proofs.MessageLaws.{table-usable}
+use Rattle.rules.proofs.FieldsLaws.{all-row_of}
 use Rattle.frame.specs.declared.table.Row.{Row}
 use Rattle.frame.specs.Table.{line_of}
 use Rattle.rules.proofs.StoresLaws.{sets-++}
@@ -43,9 +42,6 @@ widths t = leb-true _ _ (all-row_of narrow refl table table-narrow t)
 module _ (t : ℕ) (v : List ℕ) (p : ℕ) (d : List ℕ) (room : FieldRoom t v p d) (r : Row) (e : r ≡ line_of (row_of table t)) where
   width_is : (row_of table t).width ≡ r.width
   width_is = ap (λ (x : Row). x.width) (sym e)
-
-  pub numbers-short : r.width * length v < 65536
-  numbers-short = rw width_is at (let h : (row_of table t).width * length v < 65536 = omega (arith, room.content.greatest, (usable-row_of table table-usable t).short) in h)
 
   pub numbers-width : r.width ≤ 4
   numbers-width = omega (arith, width_is, widths t)

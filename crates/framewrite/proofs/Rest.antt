@@ -1,18 +1,18 @@
 -- The loop over the tags of a kind: what is left to write gives the whole.
 use mathlib.Core.Bool.{true, false}
 use mathlib.Core.List.{List, [], ◌∷◌, map}
-use mathlib.Core.Logic.{◌≢◌}
 use mathlib.Core.Path.{◌≡◌, refl, sym, ap, subst, ◌∙◌}
 use Prim.Native.Nat.{ℕ, ◌+◌, ◌^◌, ◌≤◌, ◌<◌}
 use native.Mathlib.Omega.{arith}
 use lib.ListN.{length}
 use lib.Seq.{sets}
-use borrow.Author.Tests.{ne_eqb}
 use Rattle.rules.specs.Fields.{table, row_of, tags_of, print}
 use Rattle.rules.specs.Lawful.{Each, Bytes, Contents}
 use Rattle.rules.proofs.BytesLaws.{length-all_bytes}
 use Rattle.rules.proofs.FieldsLaws.{tags_left, size, length-print}
-use Rattle.frame.specs.Table.{code_of, has}
+use Rattle.frame.specs.declared.table.Tag.{Tag}
+use Rattle.frame.specs.declared.table.Tag.TheVariants.{Edition, Kind, Cid, Src, Seq, Ack, Buf, Lsrc, Lseq, Data}
+use Rattle.frame.specs.Table.{tag_number, code_of, has}
 use Rattle.frame.proofs.Lines.{tags-step, tags-end}
 use Rattle.rules.proofs.StoresLaws.{sets-++}
 use Rattle.framewrite.specs.declared.fields.Singles.{Singles}
@@ -21,21 +21,27 @@ use Rattle.framewrite.specs.Fields.{number_of, content_of, contents_of, fields_o
 
 -- ---- the content of a field
 
-pub number-rest : (m : Singles) (t : ℕ) → t ≢ 1 → t ≢ 2 → t ≢ 3 → t ≢ 4 → t ≢ 5 → t ≢ 7 → t ≢ 8 → m.lseq ≡ number_of m t
-number-rest m t a b c d e f g = rw (ne_eqb t 1 a, ne_eqb t 2 b, ne_eqb t 3 c, ne_eqb t 4 d, ne_eqb t 5 e, ne_eqb t 7 f, ne_eqb t 8 g)
-
-module _ (m : Singles) (ack text : List ℕ) (t : ℕ) where
-  pub content-ack : t ≡ 6 → content_of m ack text t ≡ ack
+module _ (m : Singles) (ack text : List ℕ) where
+  pub content-ack : (t : Tag) → t ≡ Ack → content_of m ack text (tag_number t) ≡ ack
   unfolding content_of
-  content-ack e = rw e
+  content-ack t e = rw e
 
-  pub content-text : t ≡ 10 → content_of m ack text t ≡ text
+  pub content-text : (t : Tag) → t ≡ Data → content_of m ack text (tag_number t) ≡ text
   unfolding content_of
-  content-text e = rw e
+  content-text t e = rw e
 
-  pub content-one : t ≢ 6 → t ≢ 10 → content_of m ack text t ≡ number_of m t ∷ []
+  pub content-one : (t : Tag) → (t ≡ Ack → ⊥) → (t ≡ Data → ⊥) → content_of m ack text (tag_number t) ≡ number_of m (tag_number t) ∷ []
   unfolding content_of
-  content-one a b = rw (ne_eqb t 6 a, ne_eqb t 10 b)
+  content-one Edition a b = refl
+  content-one Kind a b = refl
+  content-one Cid a b = refl
+  content-one Src a b = refl
+  content-one Seq a b = refl
+  content-one Ack a b = absurd (a refl)
+  content-one Buf a b = refl
+  content-one Lsrc a b = refl
+  content-one Lseq a b = refl
+  content-one Data a b = absurd (b refl)
 
 -- ---- the fields that are left
 

@@ -3,42 +3,38 @@ ghost use Rattle.std.specs.Prelude.{◌∷◌, ◌≡◌, ◌+◌, ◌≤◌, �
 ghost use Rattle.std.proofs.lemmas.List.Edits.{sets};
 ghost use Rattle.rules.specs.Bytes.{bytes};
 ghost use Rattle.rules.specs.Maps.{between};
+ghost use Rattle.frame.specs.Table.{tag_number};
 ghost use Rattle.framewrite.specs.Field.{FieldRoom, FieldWritten};
 
 use crate::number::{put_number, put_numbers};
-use frame::table::{length_fits, row_of};
+use frame::table::Tag;
 use tables;
-
-// The tags of the fields that can have several numbers.
-pub const ACK: u8 = 6;
-
-pub const DATA: u8 = 10;
 
 // ACK can have n numbers.
 pub fn count_fits(n: usize) -> bool
     ensures { result ≡ between 2 8 n }
 {
-    let row = row_of(ACK);
+    let row = Tag::Ack.row();
     let width = row.width as usize;
     let most = row.greatest as usize / width;
-    n <= most && length_fits(ACK, width * n)
+    n <= most && Tag::Ack.length_fits(width * n)
 }
 
 // Writes a tag, and the length of its content.
-fn put_front(d: &mut [u8], at: usize, tag: u8, n: usize)
+fn put_front(d: &mut [u8], at: usize, tag: Tag, n: usize)
     requires { (n < 65536) × (at + 3 ≤ length d.old) }
-    ensures { d.new ≡ sets d.old at (tag ∷ bytes 2 n) }
+    ensures { d.new ≡ sets d.old at (tag_number tag ∷ bytes 2 n) }
 {
-    d[at] = tag;
+    d[at] = tag.into();
     put_number(d, at + 1, 2, n as u32);
 }
 
 // Writes a field of numbers, and gives the place after it.
-pub fn put_field(d: &mut [u8], at: usize, tag: u8, xs: &[u32]) -> usize
-    requires { FieldRoom tag xs.now at d.old }
-    ensures { FieldWritten tag xs.now at d.old result d.new }
+pub fn put_field(d: &mut [u8], at: usize, tag: Tag, xs: &[u32]) -> usize
+    requires { FieldRoom (tag_number tag) xs.now at d.old }
+    ensures { FieldWritten (tag_number tag) xs.now at d.old result d.new }
 {
-    let row = row_of(tag);
+    let row = tag.row();
     let w = row.width as usize;
     let n = w * xs.len();
     put_front(d, at, tag, n);
@@ -54,7 +50,7 @@ pub fn put_text(d: &mut [u8], at: usize, text: &[u8]) -> usize
     ensures { FieldWritten 10 text.now at d.old result d.new }
 {
     let n = text.len();
-    put_front(d, at, DATA, n);
-    tables::put_bytes(d, at + 3, text);
+    put_front(d, at, Tag::Data, n);
+    tables::put(d, at + 3, text);
     at + 3 + n
 }

@@ -10,9 +10,9 @@ mod fields;
 mod number;
 
 use answers::Refusal;
-use field::{DATA, count_fits};
+use field::count_fits;
 use fields::{Singles, put_fields};
-use frame::table::{Kind, length_fits};
+use frame::table::{Kind, Tag};
 
 // The length of a frame with n numbers of ACK, so many bytes of data and `others` bytes beside, where `room` bytes hold
 // it. Refused with NoSuchUnit where n is not 2 to 8, TooLong where the data are over 48 bytes, OutputTooShort.
@@ -22,7 +22,7 @@ fn length_of(others: u8, n: usize, text_len: usize, room: usize) -> Result<usize
     if !count_fits(n) {
         return Err(Refusal::NoSuchUnit);
     }
-    if !length_fits(DATA, text_len) {
+    if !Tag::Data.length_fits(text_len) {
         return Err(Refusal::TooLong);
     }
     let len = usize::from(others) + 4 * n + text_len;

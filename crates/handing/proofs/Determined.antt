@@ -6,9 +6,8 @@ use Rattle.rules.specs.Looks.{Looked}
 use Rattle.answers.specs.Answers.{Answered}
 use Rattle.state.specs.declared.Core.{Core}
 use Rattle.handing.specs.declared.Taken.{Taken}
-use Rattle.handing.specs.declared.looks.Numbers.{Numbers}
 use Rattle.handing.specs.Handing.{Given, Gives, taking_of, asking_of, copying_of}
-use Rattle.handing.specs.Looks.{numbers_of, count_of}
+use Rattle.handing.specs.Looks.{shown_as}
 
 -- the result, and every byte of the lent output
 gives-determined : {A : Type 0} (g : Given A) (r q : A) (after other : List ℕ) → Gives g r after → Gives g q other → (r ≡ q) × (after ≡ other)
@@ -27,8 +26,5 @@ pub copying-determined : (c : Core) (acks frames : List ℕ) (x : ℕ) (out : Li
 copying-determined c acks frames x out = gives-determined (copying_of c acks frames x out)
 
 -- the contract of each look says that the result is what x shows
-pub numbers-determined : (x : Looked) (r q : Answered Numbers) → r ≡ numbers_of x → q ≡ numbers_of x → r ≡ q
-numbers-determined x r q a b = a ∙ sym b
-
-pub count-determined : (x : Looked) (r q : Answered ℕ) → r ≡ count_of x → q ≡ count_of x → r ≡ q
-count-determined x r q a b = a ∙ sym b
+pub look-determined : {A : Type 0} (show : ℕ → ℕ → A) (x : Looked) (r q : Answered A) → r ≡ shown_as show x → q ≡ shown_as show x → r ≡ q
+look-determined show x r q a b = a ∙ sym b

@@ -16,6 +16,7 @@ use preack::Said;
 use tables;
 
 // PAL, and the taken places: the confirmed ones, then the ordered, then the waiting.
+// Kept: an array with counts beside it, since a rule of the project is fixed memory, and a unit's arrays are flat, to be lent.
 #[derive(Clone, Copy)]
 pub struct Order {
     pub pal: [u32; 64],

@@ -8,7 +8,7 @@ use Rattle.unit.specs.declared.Unit.{Unit}
 use Rattle.replay.specs.Record.{call_of}
 use Rattle.replay.specs.Calls.{gives, writes_none, seen_made, made_of}
 
-pub made_none : (u : Unit) (l out : List ℕ) → 12 < call_of l → writes_none out (gives 0 0 0 0 u) ≡ made_of u l out
+pub made_none : (u : Unit) (l out : List ℕ) → 12 < call_of l → writes_none out (gives 0 0 0 u) ≡ made_of u l out
 unfolding made_of seen_made
 made_none u l out h =
     let n : ℕ = call_of l in

@@ -5,13 +5,15 @@ use Prim.Native.Nat.{ℕ, suc, ◌+◌, ◌*◌, ◌<◌}
 use native.Mathlib.Omega.{arith}
 use lib.ListN.{length, get_or, set, take, drop, length-append, length-take, length-drop}
 use lib.Seq.{sets, drop-cons}
+use Rattle.std.specs.Result.{result_unwrap_or}
 use Rattle.rules.proofs.StoresLaws.{sets-++}
+use Rattle.answers.specs.Answers.{Answered, answer_of}
 use Rattle.handing.specs.Handing.{Given, Gives}
 use Rattle.unit.specs.declared.Unit.{Unit}
 use Rattle.replay.specs.declared.calls.Made.{Made}
 use Rattle.replay.specs.Record.{room_of, head_of}
 use Rattle.replay.specs.Calls.{made_of}
-use Rattle.replay.specs.Run.{closed_unit, blank, answered_of, record_at, unit_at, one_more, run_of}
+use Rattle.replay.specs.Run.{closed_unit, blank, front_of, answered_of, record_at, unit_at, one_more, run_of}
 
 -- ---- a reply
 
@@ -20,15 +22,20 @@ pub lent-long : (b o : List ℕ) (r : ℕ) → b ≡ blank → length o ≡ leng
 unfolding blank
 lent-long b o r e h = omega (arith, ap length e, length-append o (drop r b), length-take r b, length-drop r b)
 
+-- the number of an answer and the numbers of what is done make its front
+pub front-given : (given : Answered (ℕ × ℕ × ℕ)) (answer : ℕ) (n : ℕ × ℕ × ℕ) (head : List ℕ) → answer ≡ answer_of given
+    → n ≡ result_unwrap_or given (0, 0, 0) → head ≡ head_of answer n.0 n.1 n.2 → head ≡ front_of given
+front-given given answer n head a e h = rw (← a, ← e) h
+
 pub answered-gives : (u : Unit) (l out : List ℕ) (at r : ℕ) (b : List ℕ) (m : Made) (o head mid after : List ℕ)
-    → r ≡ room_of l → b ≡ blank → Gives (made_of u l (take r b)) m o → head ≡ head_of m.answer m.a m.b m.c
+    → r ≡ room_of l → b ≡ blank → Gives (made_of u l (take r b)) m o → head ≡ front_of m.given
     → mid ≡ sets out at head → after ≡ sets mid (at + 16) (o ++ drop r b) → Gives (answered_of u l out at) m.unit after
 unfolding answered_of
 answered-gives u l out at r b m o head mid after room lent g front stored more =
     let made : Gives (made_of u l (take (room_of l) blank)) m o = rw (room, lent) at g in
     record {
       result = ap (λ (x : Made). x.unit) made.result;
-      output = rw (more, stored, front, room, lent, ← made.result, ← made.output) (sets-++ out at (head_of m.answer m.a m.b m.c) (o ++ drop (room_of l) blank));
+      output = rw (more, stored, front, room, lent, ← made.result, ← made.output) (sets-++ out at (front_of m.given) (o ++ drop (room_of l) blank));
     }
 
 -- ---- a run

@@ -1,6 +1,8 @@
 -- The records of the input, one after the other: the units after them, and the replies.
 use Rattle.std.specs.Prelude.{List, ◌++◌, ℕ, zero, suc, ◌+◌, ◌*◌, ◌%◌, get_or, set, take, drop, replicate}
+use Rattle.std.specs.Result.{result_unwrap_or}
 use Rattle.std.proofs.lemmas.List.Edits.{sets}
+use Rattle.answers.specs.Answers.{Answered, answer_of}
 use Rattle.state.specs.Opening.{closed_core}
 use Rattle.handing.specs.Handing.{Given}
 use Rattle.unit.specs.declared.Unit.{Unit}
@@ -16,8 +18,14 @@ closed_unit = empty_with closed_core
 unfoldable pub blank : List ℕ
 blank = replicate 256 165
 
+-- with a refusal, each number is 0
+abbrev pub front_of : Answered (ℕ × ℕ × ℕ) → List ℕ
+front_of given =
+    let n : ℕ × ℕ × ℕ = result_unwrap_or given (0, 0, 0) in
+    head_of (answer_of given) n.0 n.1 n.2
+
 abbrev pub reply_of : Made → List ℕ → List ℕ
-reply_of m output = head_of m.answer m.a m.b m.c ++ output
+reply_of m output = front_of m.given ++ output
 
 -- the call that l names, on u: the next unit, and the reply from a place on
 unfoldable pub answered_of : Unit → List ℕ → List ℕ → ℕ → Given Unit

@@ -2,7 +2,7 @@
 ghost use Rattle.std.specs.Prelude.{◌≡◌, ◌+◌, ◌*◌, ◌≤◌, length};
 ghost use Rattle.rules.specs.Maps.{listed};
 ghost use Rattle.handing.specs.Handing.{Gives};
-ghost use Rattle.replay.specs.Calls.{gives, open_made, send_made, arrive_made, handed_made, take_made, look_made, made_of};
+ghost use Rattle.replay.specs.Calls.{gives, open_made, send_made, arrive_made, handed_made, take_made, count_made, look_made, made_of};
 ghost use Rattle.replay.specs.Kinds.{call_number};
 ghost use Rattle.replay.specs.Changes.{changed_of};
 ghost use Rattle.replay.specs.Record.{byte_at, number_at, call_of};
@@ -10,35 +10,17 @@ ghost use Rattle.replay.specs.Record.{byte_at, number_at, call_of};
 use crate::changes::changed;
 use crate::kinds::Call;
 use crate::record::{number_at, text};
-use handing::Handed;
-use handing::looks::Look;
+use answers::Refusal;
+use handing::looks::Numbers;
 use state::Opening;
 use tables;
 use unit::Unit;
 
-// Answer and numbers of a call, those that it lacks being 0, and the next unit.
+// What a call gives: three numbers (those that it lacks are 0) or why it refuses; and the next unit.
 #[derive(Clone, Copy)]
 pub struct Made {
-    pub answer: u32,
-    pub a: usize,
-    pub b: usize,
-    pub c: usize,
+    pub given: Result<(usize, usize, usize), Refusal>,
     pub unit: Unit,
-}
-
-impl Made {
-    // What a call without numbers gives.
-    fn bare(answer: u32, unit: Unit) -> Self
-        ensures { result ≡ gives answer 0 0 0 unit }
-    {
-        Self {
-            answer,
-            a: 0,
-            b: 0,
-            c: 0,
-            unit,
-        }
-    }
 }
 
 // The eight first numbers of an opening.
@@ -56,87 +38,87 @@ fn firsts(s: &[u8]) -> [u32; 8]
 fn opened(s: &[u8]) -> Made
     ensures { result ≡ open_made s.now }
 {
-    let o = Unit::open(Opening {
-        me: tables::byte(s, 8),
-        n: tables::byte(s, 9),
-        w: tables::byte(s, 10),
+    let (unit, opened) = Unit::open(Opening {
+        me: tables::get_or(s, 8, 0),
+        n: tables::get_or(s, 9, 0),
+        w: tables::get_or(s, 10, 0),
         cid: number_at(s, 2),
         first: firsts(s),
     });
-    Made::bare(o.answer, o.unit)
+    Made {
+        given: opened.map(|()| (0, 0, 0)),
+        unit,
+    }
 }
 
 #[tactic(auto, unfolding(crate::specs::Calls::send_made))]
 fn sent(u: Unit, text: &[u8], out: &mut [u8]) -> Made
     ensures { Gives (send_made u text.now out.old) result out.new }
 {
-    let m = u.send(text, out);
-    Made {
-        a: m.seq as usize,
-        b: m.len,
-        ..Made::bare(m.answer, m.unit)
-    }
+    let (unit, sent) = u.send(text, out);
+    let given = sent.map(|s| (s.seq as usize, s.len, 0));
+    Made { given, unit }
 }
 
 #[tactic(auto, unfolding(crate::specs::Calls::arrive_made))]
 fn arrived(u: Unit, frame: &[u8]) -> Made
     ensures { result ≡ arrive_made u frame.now }
 {
-    let m = u.arrive(frame);
-    Made {
-        a: m.first as usize,
-        b: m.last as usize,
-        ..Made::bare(m.answer, m.unit)
-    }
+    let (unit, arrived) = u.arrive(frame);
+    let given = arrived.map(|asked| match asked {
+        Some(r) => (r.first as usize, r.last as usize, 0),
+        None => (0, 0, 0),
+    });
+    Made { given, unit }
 }
 
 // A request and a copy leave the unit as it was.
-fn handed(u: Unit, h: Handed) -> Made
-    ensures { result ≡ handed_made u h }
+fn handed(unit: Unit, len: Result<usize, Refusal>) -> Made
+    ensures { result ≡ handed_made unit len }
 {
-    Made {
-        a: h.len,
-        ..Made::bare(h.answer, u)
-    }
+    let given = len.map(|len| (len, 0, 0));
+    Made { given, unit }
 }
 
 #[tactic(auto, unfolding(crate::specs::Calls::take_made))]
 fn taken(u: Unit, out: &mut [u8]) -> Made
     ensures { Gives (take_made u out.old) result out.new }
 {
-    let m = u.take(out);
-    Made {
-        a: m.src as usize,
-        b: m.seq as usize,
-        c: m.len,
-        ..Made::bare(m.answer, m.unit)
-    }
+    let (unit, taken) = u.take(out);
+    let given = taken.map(|t| (t.src as usize, t.seq as usize, t.len));
+    Made { given, unit }
 }
 
-fn looked(u: Unit, l: Look) -> Made
-    ensures { result ≡ look_made u l }
+// Looks leave the unit as it was too: they show a count alone, or numbers in a row.
+fn counted(unit: Unit, count: Result<usize, Refusal>) -> Made
+    ensures { result ≡ count_made unit count }
 {
-    Made {
-        a: l.first as usize,
-        b: l.count,
-        ..Made::bare(l.answer, u)
-    }
+    let given = count.map(|count| (0, count, 0));
+    Made { given, unit }
+}
+
+fn looked(unit: Unit, numbers: Result<Numbers, Refusal>) -> Made
+    ensures { result ≡ look_made unit numbers }
+{
+    let given = numbers.map(|row| (row.first as usize, row.count, 0));
+    Made { given, unit }
 }
 
 // The unit with the number set that the record names.
 fn set(u: Unit, s: &[u8], x: u32) -> Made
-    ensures { result ≡ gives 0 0 0 0 (changed_of u (byte_at s.now 8) (byte_at s.now 9) (byte_at s.now 10) x) }
+    ensures { result ≡ gives 0 0 0 (changed_of u (byte_at s.now 8) (byte_at s.now 9) (byte_at s.now 10) x) }
 {
-    Made::bare(
-        0,
-        changed(
-            u,
-            tables::byte(s, 8),
-            tables::byte(s, 9),
-            tables::byte(s, 10),
-            x,
-        ),
-    )
+    let unit = changed(
+        u,
+        tables::get_or(s, 8, 0),
+        tables::get_or(s, 9, 0),
+        tables::get_or(s, 10, 0),
+        x,
+    );
+    Made {
+        given: Ok((0, 0, 0)),
+        unit,
+    }
 }
 
 // The call of a record. Calls that write nothing leave the output as it was.
@@ -154,14 +136,14 @@ fn named(u: Unit, call: Call, s: &[u8], out: &mut [u8]) -> Made
         Call::Request => handed(u, u.request(k, out)),
         Call::Copy => handed(u, u.copy(x, out)),
         Call::Take => taken(u, out),
-        Call::ToTake => looked(u, u.to_take()),
-        Call::FreePlaces => looked(u, u.free_places()),
+        Call::ToTake => counted(u, u.to_take()),
+        Call::FreePlaces => counted(u, u.free_places()),
         Call::KeptNumbers => looked(u, u.kept_numbers()),
         Call::MissingOf => looked(u, u.missing_of(k)),
-        Call::WaitingOf => looked(u, u.waiting_of(k)),
+        Call::WaitingOf => counted(u, u.waiting_of(k)),
         Call::IsSound => Made {
-            a: usize::from(u.is_sound()),
-            ..Made::bare(0, u)
+            given: Ok((usize::from(u.is_sound()), 0, 0)),
+            unit: u,
         },
         Call::Set => set(u, s, x),
     }
@@ -173,8 +155,11 @@ pub fn make(u: Unit, s: &[u8], out: &mut [u8]) -> Made
     requires { 208 ≤ length s.now }
     ensures { Gives (made_of u s.now out.old) result out.new }
 {
-    match Call::try_from(tables::byte(s, 0)) {
+    match Call::try_from(tables::get_or(s, 0, 0)) {
         Ok(call) => named(u, call, s, out),
-        Err(_) => Made::bare(0, u),
+        Err(_) => Made {
+            given: Ok((0, 0, 0)),
+            unit: u,
+        },
     }
 }

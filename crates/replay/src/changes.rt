@@ -24,7 +24,7 @@ fn set(u: &mut Unit, what: Setting, k: u8, j: u8, x: u32)
 {
     let row = tables::before(k) as usize;
     let column = tables::before(j) as usize;
-    let place = tables::byte(&u.core.order.list, k as usize) as usize;
+    let place = tables::get_or(&u.core.order.list, k as usize, 0) as usize;
     let low = (x % 256) as u8;
     match what {
         Setting::Seq => u.core.seq = x,
@@ -38,11 +38,11 @@ fn set(u: &mut Unit, what: Setting, k: u8, j: u8, x: u32)
         Setting::W => u.core.w = low,
         Setting::Cid => u.core.cid = x,
         Setting::MessageSeq => put(&mut u.core.seqs, place, x),
-        Setting::MessageLength => tables::put_bytes(&mut u.core.lens, place, &[low]),
+        Setting::MessageLength => tables::put(&mut u.core.lens, place, &[low]),
         Setting::MessageAck => put(&mut u.acks, 8 * place + column, x),
         Setting::Place => {
-            let same = tables::byte(&u.core.order.list, j as usize);
-            tables::put_bytes(&mut u.core.order.list, k as usize, &[same]);
+            let same = tables::get_or(&u.core.order.list, j as usize, 0);
+            tables::put(&mut u.core.order.list, k as usize, &[same]);
         }
     }
 }

@@ -11,6 +11,7 @@ ghost use Rattle.std.specs.Prelude.{◌≡◌, ◌+◌, ◌*◌, ◌≤◌, leng
 ghost use Rattle.handing.specs.Handing.{Gives};
 ghost use Rattle.replay.specs.Run.{closed_unit, blank, answered_of, run_of};
 
+use answers::answer;
 use record::head;
 use state::Opening;
 use std::io;
@@ -29,14 +30,14 @@ const PART: usize = 64;
 fn closed() -> [Unit; Unit::MOST_UNITS]
     ensures { result ≡ replicate 8 closed_unit }
 {
-    let none = Unit::open(Opening {
+    let (none, _) = Unit::open(Opening {
         me: 0,
         n: 0,
         w: 0,
         cid: 0,
         first: [0u32; 8],
     });
-    [none.unit; Unit::MOST_UNITS]
+    [none; Unit::MOST_UNITS]
 }
 
 // The output before a call.
@@ -53,11 +54,12 @@ fn answered(u: Unit, s: &[u8], out: &mut [u8], at: usize) -> Unit
     ensures { Gives (answered_of u s.now out.old at) result out.new }
 {
     let mut lent = blank();
-    let room = tables::byte(s, 6) as usize;
+    let room = tables::get_or(s, 6, 0) as usize;
     let m = calls::make(u, s, &mut lent[..room]);
-    let front = head(m.answer, m.a, m.b, m.c);
-    tables::put_bytes(out, at, &front);
-    tables::put_bytes(out, at + 16, &lent);
+    let (a, b, c) = m.given.unwrap_or((0, 0, 0));
+    let front = head(answer(&m.given), a, b, c);
+    tables::put(out, at, &front);
+    tables::put(out, at + 16, &lent);
     m.unit
 }
 
@@ -68,7 +70,7 @@ fn run(units: &mut [Unit; Unit::MOST_UNITS], input: &[u8], records: usize, out: 
 {
     for i in 0..records {
         let from = CALL * i;
-        let k = (tables::byte(input, from + 1) % 8) as usize;
+        let k = (tables::get_or(input, from + 1, 0) % 8) as usize;
         let next = answered(units[k], &input[from..from + CALL], out, REPLY * i);
         units[k] = next;
     }

@@ -10,10 +10,10 @@ pub fn number_at(s: &[u8], at: usize) -> u32
     ensures { result ≡ number_at s.now at }
 {
     u32::from_be_bytes([
-        tables::byte(s, at),
-        tables::byte(s, at + 1),
-        tables::byte(s, at + 2),
-        tables::byte(s, at + 3),
+        tables::get_or(s, at, 0),
+        tables::get_or(s, at + 1, 0),
+        tables::get_or(s, at + 2, 0),
+        tables::get_or(s, at + 3, 0),
     ])
 }
 
@@ -22,7 +22,7 @@ pub fn text(s: &[u8]) -> &[u8]
     requires { 208 ≤ length s.now }
     ensures { result.now ≡ text_of s.now }
 {
-    tables::front(&s[8..208], tables::byte(s, 7) as usize)
+    tables::front(&s[8..208], tables::get_or(s, 7, 0) as usize)
 }
 
 // The last four bytes of a number, high byte first.

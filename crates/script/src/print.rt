@@ -32,7 +32,7 @@ fn put(out: &mut [u8], at: usize, s: &[u8]) -> usize
     requires { at + length s.now ≤ length out.old }
     ensures { Put out.old at s.now result out.new }
 {
-    tables::put_bytes(out, at, s);
+    tables::put(out, at, s);
     at + s.len()
 }
 

@@ -29,6 +29,7 @@ pub const MOST_DATA: usize = 48;
 
 // The kept frame of number s is in slot s - minAL of the own index, and `kept` holds its length. `seqs` and `lens`
 // hold number and data length of the message at each place.
+// Kept: arrays side by side, indexed by place, since a rule of the project is fixed memory, and flat arrays can be lent.
 #[derive(Clone, Copy)]
 pub struct Core {
     pub me: u8,

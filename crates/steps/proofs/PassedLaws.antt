@@ -1,39 +1,30 @@
--- What an arrival or a send that is not refused has passed.
-use Rattle.std.specs.Prelude.{true, false, List, ◌≡◌, ⊤, ℕ, ◌≤◌, ◌<◌, eqb, Option, Some, None, Ok}
+-- What an arrival has passed, and what its refusal says.
+use Rattle.std.specs.Prelude.{true, List, ◌≡◌, ⊤, ℕ, ◌<◌, eqb, Option, Some, None, Ok, Err}
 use mathlib.Core.Option.{none, some}
 use mathlib.Core.Option as maybe
-use mathlib.Core.Path.{refl, sym, subst}
+use mathlib.Core.Path.{refl, sym, ap, subst, ◌∙◌}
 use native.Mathlib.Omega.{arith}
-use borrow.Author.Tests.{ltb-false, leb-false}
-use Rattle.rules.specs.Maps.{between, at}
+use Rattle.rules.specs.Maps.{between}
+use Rattle.rules.specs.Calls.{Check, decide}
 use Rattle.rules.specs.Message.{Said, message, request, decode}
-use Rattle.rules.proofs.MapsLaws.{and_right, between-low, between-high, or_left, or_right}
+use Rattle.rules.proofs.MapsLaws.{and_right, between-low, between-high}
 use Rattle.rules.proofs.LimitsLaws.{decode-limits}
-use Rattle.answers.specs.Answers.{Answered, judged}
-use Rattle.answers.proofs.AnswersLaws.{done_passes}
+use Rattle.answers.specs.declared.Refusal.{Refusal}
+use Rattle.answers.specs.Answers.{Answered, number_of, refusal_of, judged}
+use Rattle.answers.proofs.AnswersLaws.{Numbered, decide-numbered}
 use Rattle.state.specs.declared.Core.{Core}
 use Rattle.frame.specs.declared.Head.{Head}
 use Rattle.frame.specs.declared.Data.{Data}
-use Rattle.frame.specs.declared.Request.{Request}
 use Rattle.frame.specs.declared.Frame.{Frame}
 use Rattle.frame.specs.declared.Frame.TheVariants as frame
 use Rattle.frame.specs.Frame.{frame_of}
-use Rattle.steps.specs.Checks.{FromUnit, of_group, asks_wrongly, request_checks, send_checks}
+use Rattle.steps.specs.Checks.{FromUnit, of_group}
 
 pub from-unit : (c : Core) (h : Head) → of_group c h ≡ true → FromUnit c h
 unfolding of_group
 from-unit c h e =
     let unit : between 1 c.n h.src ≡ true = and_right (eqb h.n c.n) (between 1 c.n h.src) e in
     record { first = between-low 1 c.n h.src unit; unit = between-high 1 c.n h.src unit }
-
-pub asks-some : (c : Core) (f : Request) (x : ⊤) → ◌≡◌ {A = Answered ⊤} (judged (request_checks c f) tt) (Ok x) → 1 ≤ f.lseq
-unfolding asks_wrongly
-asks-some c f x e =
-    let wrong : asks_wrongly c f ≡ false = (done_passes tt (request_checks c f) x e).1.1.1.1.0 in
-    omega (arith, leb-false f.lseq (at f.head.ack c.me) (search (or_left, or_right)))
-
-pub short-data : (c : Core) (len room : ℕ) (x : ⊤) → ◌≡◌ {A = Answered ⊤} (judged (send_checks c len room) tt) (Ok x) → len ≤ 48
-short-data c len room x e = ltb-false 48 len (done_passes tt (send_checks c len room) x e).0
 
 -- a frame's data are short
 abbrev short : Option Frame → Type 0
@@ -49,3 +40,14 @@ frame-short l f e = subst short (sym e) (go (decode l) refl)
     go none h = tt
     go (some (message p)) h = omega (arith, (decode-limits l p h).short)
     go (some (request r)) h = tt
+
+-- checks made by a function of their own: its refusal tells what they decide
+module _ {B : Type 0} (refused : ℕ → B) (done : B) where
+  by-answer : Answered ⊤ → B
+  by-answer (Ok x) = done
+  by-answer (Err r) = refused (number_of r)
+
+  pub refused-decides : (l : List Check) → Numbered l → (r : Refusal) → ◌≡◌ {A = Answered ⊤} (judged l tt) (Err r) → decide l refused done ≡ refused (number_of r)
+  unfolding by-answer
+  refused-decides l n r h =
+      sym (decide-numbered by-answer (λ a. Err (refusal_of a)) (Ok tt) refused (λ a e. ap refused e) l n) ∙ ap by-answer h

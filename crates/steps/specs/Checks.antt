@@ -12,7 +12,7 @@ use Rattle.frame.specs.declared.Data.{Data}
 use Rattle.frame.specs.declared.Request.{Request}
 
 -- i, n and W are in range: what the functions on a sound unit's numbers ask for
-pub record Ranged (c : Core) : Type 0 where
+pub record InRange (c : Core) : Type 0 where
   pub own : 1 ≤ c.me
   pub unit : c.me ≤ c.n
   pub few : c.n ≤ 8

@@ -5,6 +5,7 @@ mod asked;
 mod data;
 mod own;
 mod place;
+mod ranged;
 
 ghost use Rattle.std.specs.Prelude.{◌≡◌};
 ghost use Rattle.rules.specs.Message.{decode};
@@ -15,6 +16,7 @@ ghost use Rattle.steps.specs.Sending.{sending_of};
 use answers::Refusal;
 use frame;
 use frame::{Frame, Head};
+use ranged::Ranged;
 use state;
 use state::Core;
 
@@ -70,7 +72,7 @@ pub fn arrive<'a>(c: Core, acks: &'a [u32], s: &'a [u8]) -> (Core, Result<Arriva
     }
     match frame::read(s) {
         None => (c, Err(Refusal::NotAFrame)),
-        Some(Frame::Data(f)) => data::arrived(c, f),
+        Some(Frame::Data(f)) => data::arrived(Ranged { core: c }, f),
         Some(Frame::Request(f)) => (c, asked::arrived(c, f)),
     }
 }
@@ -81,5 +83,5 @@ pub fn send(c: Core, acks: &[u32], len: usize, room: usize) -> Result<Sending, R
     ensures { result ≡ sending_of c acks.now len room }
 {
     state::checked(c, acks)?;
-    own::checked(c, len, room)
+    own::checked(Ranged { core: c }, len, room)
 }

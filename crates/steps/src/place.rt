@@ -3,17 +3,18 @@ ghost use Rattle.std.specs.Prelude.{◌≡◌, ◌≤◌};
 ghost use Rattle.steps.specs.Arrival.{free_place};
 ghost use Rattle.steps.specs.Checks.{no_place};
 
+use crate::ranged::Ranged;
 use lists;
 use state::Core;
 
 // The first free place of sender j.
 #[tactic(auto, unfolding(crate::specs::Arrival::free_place))]
-pub fn first_free(c: Core, j: u8) -> u8
-    requires { (c.w ≤ 4) × ((1 ≤ j) × (j ≤ 8)) }
-    ensures { result ≡ free_place c j }
+pub fn first_free(r: Ranged, j: u8) -> u8
+    requires { (1 ≤ j) × (j ≤ 8) }
+    ensures { result ≡ free_place r.core j }
 {
-    let order = c.order;
-    16 * (j - 1) + lists::free_slot(order, j, 4 * c.w)
+    let c = r.core;
+    16 * (j - 1) + lists::free_slot(c.order, j, 4 * c.w)
 }
 
 // Sender j has no free place.
@@ -21,6 +22,5 @@ pub fn first_free(c: Core, j: u8) -> u8
 pub fn none_free(c: Core, j: u8) -> bool
     ensures { result ≡ no_place c j }
 {
-    let order = c.order;
-    4 * (c.w as usize) <= lists::taken_of(order, j)
+    4 * (c.w as usize) <= lists::taken_of(c.order, j)
 }

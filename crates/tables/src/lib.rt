@@ -1,24 +1,10 @@
 // Numbers and bytes in rows, and tables of eight rows of eight: reads and writes that no index can break.
 #![tactic(auto)]
 
-ghost use Rattle.std.specs.Prelude.{◌≡◌, ◌+◌, ◌-◌, ◌*◌, ◌<◌, min, max, get_or, take, drop, set};
+ghost use Rattle.std.specs.Prelude.{◌≡◌, ◌+◌, ◌-◌, min, get_or, take, drop, set};
 ghost use Rattle.std.proofs.lemmas.List.Edits.{sets};
 ghost use Rattle.rules.specs.Maps.{at, least, every};
 ghost use Rattle.tables.specs.Rows.{row_of, none_zero, below_but, with_column, column_of, raised};
-
-// The smaller of two.
-pub fn lesser(a: u32, b: u32) -> u32
-    ensures { result ≡ min a b }
-{
-    a.min(b)
-}
-
-// The larger of two.
-pub fn larger(a: u32, b: u32) -> u32
-    ensures { result ≡ max a b }
-{
-    a.max(b)
-}
 
 // The number after x, where one fits.
 pub fn next(x: u32) -> u32
@@ -34,25 +20,11 @@ pub fn before(x: u8) -> u8
     x.saturating_sub(1)
 }
 
-// How much x is above y, 0 where it is not.
-pub fn above(x: u32, y: u32) -> u32
-    ensures { result ≡ x - y }
-{
-    x.saturating_sub(y)
-}
-
 // Entry i of a list, and `none` past its end.
 pub fn get_or<T: Copy + Drop>(a: &[T], i: usize, none: T) -> T
     ensures { result ≡ get_or a.now i none }
 {
     a.get(i).copied().unwrap_or(none)
-}
-
-// Number i of a list, 0 past its end.
-pub fn get(a: &[u32], i: usize) -> u32
-    ensures { result ≡ get_or a.now i 0 }
-{
-    get_or(a, i, 0)
 }
 
 // The k-th number of a list, the first being 1; 0 where there is none.
@@ -63,13 +35,6 @@ pub fn at(a: &[u32], k: u8) -> u32
         return 0;
     }
     get_or(a, (k - 1) as usize, 0)
-}
-
-// Byte i of a list, 0 past its end.
-pub fn byte(a: &[u8], i: usize) -> u8
-    ensures { result ≡ get_or a.now i 0 }
-{
-    get_or(a, i, 0)
 }
 
 // The first entries, at most so many.
@@ -89,13 +54,6 @@ pub fn put<T: Copy>(d: &mut [T], at: usize, xs: &[T])
     }
     let fitting = front(xs, d.len() - at);
     d[at..at + fitting.len()].copy_from_slice(fitting);
-}
-
-// Writes bytes from a place on, and none past the end.
-pub fn put_bytes(d: &mut [u8], at: usize, b: &[u8])
-    ensures { d.new ≡ sets d.old at b.now }
-{
-    put(d, at, b)
 }
 
 // The list from index i on.

@@ -9,11 +9,10 @@ use Rattle.std.specs.Prelude.{⊤, Option}
 use Rattle.answers.specs.Answers.{Answered}
 use Rattle.state.specs.declared.Opening.{Opening}
 use Rattle.steps.specs.declared.Resend.{Resend}
-use Rattle.handing.specs.declared.looks.Numbers.{Numbers}
 use Rattle.unit.specs.declared.Unit.{Unit}
 use Rattle.unit.specs.declared.Sent.{Sent}
 use Rattle.unit.specs.declared.Taken.{Taken}
-use Rattle.unit.specs.CallContracts.{Opens, Sends, Arrives, Asks, Copies, Takes, Counts, Shows, Tests}
+use Rattle.unit.specs.CallContracts.{Opens, Sends, Arrives, Asks, Copies, Takes, Looks, Tests}
 
 pub open-determined : (o : Opening) (r q : Unit × Answered ⊤) → Opens o r → Opens o q → r ≡ q
 open-determined o r q a b = a.exact ∙ sym b.exact
@@ -38,8 +37,5 @@ module _ (u : Unit) where
   is-sound-determined r q a b = a.exact ∙ sym b.exact
 
 -- of each look
-pub count-determined : (given meant : Looked) (r q : Answered ℕ) → Counts given meant r → Counts given meant q → r ≡ q
-count-determined given meant r q a b = a.exact ∙ sym b.exact
-
-pub numbers-determined : (given meant : Looked) (r q : Answered Numbers) → Shows given meant r → Shows given meant q → r ≡ q
-numbers-determined given meant r q a b = a.exact ∙ sym b.exact
+pub look-determined : {A : Type 0} (show : ℕ → ℕ → A) (given meant : Looked) (r q : Answered A) → Looks show given meant r → Looks show given meant q → r ≡ q
+look-determined show given meant r q a b = a.exact ∙ sym b.exact

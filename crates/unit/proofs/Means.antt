@@ -22,7 +22,6 @@ use Rattle.state.specs.Soundness.{sound_of}
 use Rattle.state.proofs.OpeningLaws.{OpensSound, opens, refuses, opening-look, opened-sound}
 use Rattle.state.proofs.SoundLaws.{sound-look}
 use Rattle.handing.specs.declared.Taken as handing
-use Rattle.handing.specs.declared.looks.Numbers.{Numbers}
 use Rattle.handing.specs.Meant.{taken_as, handed_as}
 use Rattle.steps.specs.declared.Resend.{Resend}
 use Rattle.steps.specs.declared.Arrival.{Arrival}
@@ -30,7 +29,7 @@ use Rattle.steps.specs.declared.Arrival.TheVariants.{Asked, Accepted}
 use Rattle.steps.specs.Arrival.{arrival_of}
 use Rattle.frame.specs.Frame.{payload_of}
 use Rattle.handing.specs.Handing.{Given, asking_of, copying_of}
-use Rattle.handing.specs.Looks.{numbers_of, count_of}
+use Rattle.handing.specs.Looks.{shown_as}
 use Rattle.handing.proofs.TakingMeans.{taking-means}
 use Rattle.handing.proofs.AskingMeans.{asking-means}
 use Rattle.handing.proofs.CopyingMeans.{copying-means}
@@ -44,7 +43,7 @@ use Rattle.unit.specs.declared.Sent.{Sent}
 use Rattle.unit.specs.declared.Taken.{Taken}
 use Rattle.unit.specs.View.{Outcome, view, meant, of_sent, of_arrived, of_handed, of_taken}
 use Rattle.unit.specs.Exact.{empty_with, opened_of, sent_unit, sent_by, sent_of, arrived_by, arrived_of, taken_from, taken_of}
-use Rattle.unit.specs.CallContracts.{SoundAfter, Opens, Sends, Arrives, Asks, Copies, Takes, Counts, Shows, Tests}
+use Rattle.unit.specs.CallContracts.{SoundAfter, Opens, Sends, Arrives, Asks, Copies, Takes, Looks, Tests}
 
 -- what means a call on a sound unit leaves a sound one
 pub sound-after : (u : Unit) (c : Call) (x : Outcome) → meant x ≡ call (view u) c → SoundAfter u x.next
@@ -145,8 +144,5 @@ module _ (u : Unit) (Z : Shaped u.core u.acks u.bytes u.frames) where
         sound = sound-after u (sends d out) (of_sent r out') m;
       }
 
-pub counts-shown : (given meant : Looked) → given ≡ meant → (r : Answered ℕ) → r ≡ count_of given → Counts given meant r
-counts-shown given meant m r e = record { exact = e; means = e ∙ ap count_of m }
-
-pub numbers-shown : (given meant : Looked) → given ≡ meant → (r : Answered Numbers) → r ≡ numbers_of given → Shows given meant r
-numbers-shown given meant m r e = record { exact = e; means = e ∙ ap numbers_of m }
+pub looks-shown : {A : Type 0} (show : ℕ → ℕ → A) (given meant : Looked) → given ≡ meant → (r : Answered A) → r ≡ shown_as show given → Looks show given meant r
+looks-shown show given meant m r e = record { exact = e; means = e ∙ ap (shown_as show) m }

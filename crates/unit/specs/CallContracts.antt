@@ -10,9 +10,8 @@ use Rattle.state.specs.declared.Opening.{Opening}
 use Rattle.state.specs.Opening.{closed_core}
 use Rattle.state.specs.Soundness.{sound_of}
 use Rattle.steps.specs.declared.Resend.{Resend}
-use Rattle.handing.specs.declared.looks.Numbers.{Numbers}
 use Rattle.handing.specs.Handing.{asking_of, copying_of}
-use Rattle.handing.specs.Looks.{numbers_of, count_of}
+use Rattle.handing.specs.Looks.{shown_as}
 use Rattle.unit.specs.declared.Unit.{Unit}
 use Rattle.unit.specs.declared.Sent.{Sent}
 use Rattle.unit.specs.declared.Taken.{Taken}
@@ -62,15 +61,11 @@ pub record Takes (u : Unit) (out : List ℕ) (r : Unit × Answered Taken) (out' 
   pub means : meant (of_taken r out') ≡ rules.take (view u) out
   pub sound : SoundAfter u r.0
 
--- a look shows what the unit's numbers give, and that is what the look of the rules shows: a count alone, or numbers in a
--- row
-pub record Counts (given meant : Looked) (r : Answered ℕ) : Type 0 where
-  pub exact : r ≡ count_of given
-  pub means : r ≡ count_of meant
-
-pub record Shows (given meant : Looked) (r : Answered Numbers) : Type 0 where
-  pub exact : r ≡ numbers_of given
-  pub means : r ≡ numbers_of meant
+-- a look shows what the unit's numbers give, and that is what the look of the rules shows: `show` makes what the code
+-- answers of the first number and the count
+pub record Looks {A : Type 0} (show : ℕ → ℕ → A) (given meant : Looked) (r : Answered A) : Type 0 where
+  pub exact : r ≡ shown_as show given
+  pub means : r ≡ shown_as show meant
 
 -- whether the unit is sound
 pub record Tests (u : Unit) (r : Bool) : Type 0 where

@@ -2,9 +2,9 @@
 #![tactic(auto)]
 
 ghost use Rattle.rules.specs.Looks as rules;
-ghost use Rattle.handing.specs.Looks.{to_take_in, free_places_in, kept_numbers_in, missing_in, waiting_in};
+ghost use Rattle.handing.specs.Looks.{count_alone, row, to_take_in, free_places_in, kept_numbers_in, missing_in, waiting_in};
 ghost use Rattle.unit.specs.View.{view};
-ghost use Rattle.unit.specs.CallContracts.{Opens, Sends, Arrives, Asks, Copies, Takes, Counts, Shows, Tests};
+ghost use Rattle.unit.specs.CallContracts.{Opens, Sends, Arrives, Asks, Copies, Takes, Looks, Tests};
 
 use answers::Refusal;
 use frame;
@@ -160,7 +160,7 @@ impl Unit {
 
     // How many messages can be taken. Looks refuse with 1 where the unit is not sound, and with 5 where k is no unit.
     pub fn to_take(self) -> Result<usize, Refusal>
-        ensures { Counts (to_take_in self.core self.acks) (rules.to_take (view self)) result }
+        ensures { Looks count_alone (to_take_in self.core self.acks) (rules.to_take (view self)) result }
     {
         let c = self.core;
         looks::to_take(c, &self.acks)
@@ -168,7 +168,7 @@ impl Unit {
 
     // How many places are free.
     pub fn free_places(self) -> Result<usize, Refusal>
-        ensures { Counts (free_places_in self.core self.acks) (rules.free_places (view self)) result }
+        ensures { Looks count_alone (free_places_in self.core self.acks) (rules.free_places (view self)) result }
     {
         let c = self.core;
         looks::free_places(c, &self.acks)
@@ -176,7 +176,7 @@ impl Unit {
 
     // The kept numbers.
     pub fn kept_numbers(self) -> Result<Numbers, Refusal>
-        ensures { Shows (kept_numbers_in self.core self.acks) (rules.kept_numbers (view self)) result }
+        ensures { Looks row (kept_numbers_in self.core self.acks) (rules.kept_numbers (view self)) result }
     {
         let c = self.core;
         looks::kept_numbers(c, &self.acks)
@@ -184,7 +184,7 @@ impl Unit {
 
     // The missing numbers of unit k.
     pub fn missing_of(self, k: u8) -> Result<Numbers, Refusal>
-        ensures { Shows (missing_in self.core self.acks k) (rules.missing_of (view self) k) result }
+        ensures { Looks row (missing_in self.core self.acks k) (rules.missing_of (view self) k) result }
     {
         let c = self.core;
         looks::missing_of(c, &self.acks, k)
@@ -192,7 +192,7 @@ impl Unit {
 
     // How many of unit k's messages wait.
     pub fn waiting_of(self, k: u8) -> Result<usize, Refusal>
-        ensures { Counts (waiting_in self.core self.acks k) (rules.waiting_of (view self) k) result }
+        ensures { Looks count_alone (waiting_in self.core self.acks k) (rules.waiting_of (view self) k) result }
     {
         let c = self.core;
         looks::waiting_of(c, &self.acks, k)

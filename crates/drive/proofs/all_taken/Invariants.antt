@@ -7,4 +7,4 @@ use Rattle.drive.proofs.all_taken.Given as goal
 
 abbrev pub invariant-loop-count : goal.invariant-loop-count
 invariant-loop-count l =
-    (length l.out ≡ 16) × (all_taken (128 - l.count) (record { result = l.t; output = l.out }) l.sum ≡ all_taken 128 (record { result = l.initial.t; output = l.initial.out }) l.initial.sum)
+    (length l.out ≡ 16) × (all_taken (128 - l.count) l.unit l.taken l.out l.sum ≡ all_taken 128 l.initial.unit l.initial.taken l.initial.out l.initial.sum)

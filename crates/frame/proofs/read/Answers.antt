@@ -4,7 +4,6 @@ use mathlib.Core.Bool.{false≢true}
 use mathlib.Core.Path.{sym, ap, ◌∙◌}
 use Rattle.std.specs.Result.{result_ok}
 use Rattle.rules.specs.Fields.{table, tags_of, fits}
-use Rattle.frame.specs.Table.{code_of}
 use Rattle.frame.proofs.Lines.{number-is, number-of-none}
 use Rattle.frame.proofs.Outs.{not-a-frame}
 use Rattle.frame.proofs.Reading.{no-kind}
@@ -29,17 +28,3 @@ returns-then-not-well_formed c =
           (λ s. false≢true (sym w.if-not-well_formed.true ∙ c.well_formed-2.ensures ∙ ap (λ k. fits table (tags_of table k) l) (sym kind) ∙ s.fit))
       | then-not-well_formed-via-else-not-well_formed+then-s-ne1 w ↦ not-a-frame l (λ s. w.if-s-ne1.true s.edition-is)
     ]
-
-pub read_data-requires : goal.read_data-requires
-read_data-requires c =
-    let fit = sym c.well_formed-2.ensures ∙ c.if-not-well_formed.false in
-    let kind = number-is _ _ (sym c.in_ok-kind.was ∙ c.ok.ensures.value ∙ ap result_ok c.try_from.ensures) in
-    let one = c.in-Data.is in
-    (ap (λ k. fits table (tags_of table (code_of k)) c.args.s.now) (sym one) ∙ fit, c.if-s-ne1.false, kind ∙ ap code_of one)
-
-pub read_request-requires : goal.read_request-requires
-read_request-requires c =
-    let fit = sym c.well_formed-2.ensures ∙ c.if-not-well_formed.false in
-    let kind = number-is _ _ (sym c.in_ok-kind.was ∙ c.ok.ensures.value ∙ ap result_ok c.try_from.ensures) in
-    let two = c.in-Request.is in
-    (ap (λ k. fits table (tags_of table (code_of k)) c.args.s.now) (sym two) ∙ fit, c.if-s-ne1.false, kind ∙ ap code_of two)

@@ -4,11 +4,8 @@ use mathlib.Core.Path.{◌≡◌, sym, ap, ◌∙◌}
 use Prim.Native.Nat.{◌+◌, ◌*◌}
 use Rattle.std.specs.Prelude.{Ok}
 use Rattle.rules.proofs.MapsLaws.{between-high}
-use Rattle.framewrite.proofs.Answers.{text-within, refuses-5, refuses-13, refuses-16, gives-length}
+use Rattle.framewrite.proofs.Answers.{text-within, refuses-13, refuses-16, gives-length}
 use Rattle.framewrite.proofs.length_of.Goals as goal
-
-pub returns-then-not-count_fits : goal.returns-then-not-count_fits
-returns-then-not-count_fits c = refuses-5 c.args.others c.args.n c.args.text_len c.args.room _ (sym c.count_fits.ensures ∙ c.if-not-count_fits.true)
 
 pub returns-then-not-length_fits : goal.returns-then-not-length_fits
 returns-then-not-length_fits c = refuses-13 c.args.others c.args.n c.args.text_len c.args.room _ (sym c.count_fits.ensures ∙ c.if-not-count_fits.false) (sym c.length_fits.ensures ∙ c.if-not-length_fits.true)

@@ -11,7 +11,7 @@ returns-then-s-lt3 c =
     elim c.then-s-lt3.branch [
       | then-s-lt3-via-then-s-lt3 w ↦ short-slice _ _ _ w.if-s-lt3.true
       | then-s-lt3-via-else-s-lt3+then-s-at w ↦ past_end _ _ _ w.if-s-at.true
-      | then-s-lt3-via-else-s-lt3+else-s-at+then-s-at-2 w ↦ other_tag _ _ _ (λ e. omega arith)
+      | then-s-lt3-via-else-s-lt3+else-s-at+then-s-at-2 w ↦ other_tag _ _ _ (λ e. omega (arith, w.into.ensures))
     ]
 
 pub returns-then-not-length_fits : goal.returns-then-not-length_fits
@@ -25,5 +25,5 @@ returns-then-not-length_fits c =
 
 pub returns : goal.returns
 returns c =
-    a-field _ _ _ _ c.number_at-n.ensures c.if-s-lt3.false c.if-s-at.false c.if-s-at-2.false
+    a-field _ _ _ _ c.number_at-n.ensures c.if-s-lt3.false c.if-s-at.false (c.if-s-at-2.false ∙ c.into.ensures)
     (sym c.length_fits.ensures ∙ c.if-not-length_fits.false) c.if-s-start.false

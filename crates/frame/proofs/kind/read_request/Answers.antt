@@ -29,9 +29,6 @@ returns-then-lseq-eq0 c =
     let pre = c.requires in
     lseq-out _ pre.0 pre.1 pre.2 _ (sym c.in_ok-head.was ∙ c.head_at.ensures) _ c.number_at-lseq.ensures c.if-lseq-eq0.true
 
-pub number_at-requires : goal.number_at-requires
-number_at-requires c = omega (arith, request-room _ c.requires.0 _ (sym c.in_ok-head.was ∙ c.head_at.ensures))
-
 pub returns : goal.returns
 returns c =
     let pre = c.requires in

@@ -1,9 +1,8 @@
 use native.Mathlib.Omega.{arith}
-use mathlib.Core.Path.{◌≡◌, refl, ap, ◌∙◌}
-use lib.ListN.{drop, set}
+use mathlib.Core.Path.{refl, ap, ◌∙◌}
+use lib.ListN.{set}
 use Rattle.frame.proofs.Numbers.{acks-more}
 use Rattle.frame.specs.Acks.{eight}
-use Rattle.rules.specs.Bytes.{all_numbers}
 use Rattle.frame.proofs.number.acks_at.Goals as goal
 
 pub loop-i-init : goal.loop-i-init
@@ -16,9 +15,3 @@ loop-i-preserved c =
     let a = c.args in
     let x = c.number_at.result in
     (omega arith, ap (λ o. set o l.i x) l.invariant.1 ∙ acks-more a.s.now a.at l.i x (omega arith) c.number_at.ensures)
-
-pub returns : goal.returns
-returns c =
-    let a = c.args in
-    let e : c.loop-i.i ≡ a.n = omega arith in
-    c.loop-i.invariant.1 ∙ ap (λ k. eight (all_numbers 4 k (drop a.at a.s.now))) e

@@ -4,7 +4,7 @@ use mathlib.Core.Path.{◌≡◌, refl, sym, ap, ◌∙◌, subst⁻¹}
 use Rattle.frame.specs.declared.reader.Reader.{Reader}
 use Rattle.frame.specs.Field.{field_at}
 use Rattle.frame.specs.Table.{code_of}
-use Rattle.frame.proofs.Lines.{has-row}
+use Rattle.frame.proofs.Lines.{tag-at, has-row}
 use Rattle.frame.proofs.Turn.{Walked, none-walked, walked_by, stopped, walked-over, walked_all}
 use Rattle.frame.proofs.reader.well_formed.Goals as goal
 use Rattle.frame.proofs.reader.well_formed.Goals.{then-is_of+in-Some, else-is_of}
@@ -19,25 +19,28 @@ pub returns-in_default : goal.returns-in_default
 returns-in_default c =
     let l = c.loop-tag in
     let i = l.invariant in
-    stopped _ _ _ _ i.1 c.loop-tag-test.true (has-row l.tag _ _ c.row_of.ensures _ c.is_of.ensures _ c.if-is_of.true)
-    (sym c.in_default.is ∙ c.next.ensures ∙ ap (λ s. field_at s l.reader.at l.tag) i.0)
+    let n = tag-at l.tag-index c.loop-tag-test.true _ in
+    stopped _ _ _ _ i.1 (omega arith) (has-row (l.tag-index + 1) _ n _ _ c.row.ensures _ c.is_of.ensures _ c.if-is_of.true)
+    (sym c.in_default.is ∙ c.next.ensures ∙ ap (field_at l.reader.frame.now l.reader.at) n ∙ ap (λ s. field_at s l.reader.at (l.tag-index + 1)) i.0)
 
 pub loop-tag-preserved : goal.loop-tag-preserved
 loop-tag-preserved c =
     let l = c.loop-tag in
     let i = l.invariant in
-    let t = c.loop-tag-test.true in
+    let t = l.tag-index + 1 in
+    let n = tag-at l.tag-index c.loop-tag-test.true _ in
     let s = c.args.s.now in
-    let Next : Reader → Type 0 = λ r. (r.frame.now ≡ s) × Walked s (code_of c.args.kind) r.at (l.tag + 1) in
+    let Next : Reader → Type 0 = λ r. (r.frame.now ≡ s) × Walked s (code_of c.args.kind) r.at (t + 1) in
     elim c.if-is_of.branch [
       | then-is_of+in-Some w ↦
           subst⁻¹ Next (w.reader-is ∙ w.after-reader.ensures) (
             i.0,
-            walked-over _ _ _ _ i.1 t (has-row l.tag _ _ c.row_of.ensures _ c.is_of.ensures _ w.if-is_of.true) _
-                (sym w.in-Some.is ∙ w.next.ensures ∙ ap (λ x. field_at x l.reader.at l.tag) i.0),
+            walked-over _ _ _ _ i.1 (omega arith) (has-row t _ n _ _ c.row.ensures _ c.is_of.ensures _ w.if-is_of.true) _
+                (sym w.in-Some.is ∙ w.next.ensures ∙ ap (field_at l.reader.frame.now l.reader.at) n ∙ ap (λ x. field_at x l.reader.at t) i.0),
           )
       | else-is_of w ↦
-          subst⁻¹ Next w.reader-is (i.0, walked_by _ _ _ _ i.1 t (has-row l.tag _ _ c.row_of.ensures _ c.is_of.ensures _ w.if-is_of.false))
+          subst⁻¹ Next w.reader-is
+          (i.0, walked_by _ _ _ _ i.1 (omega arith) (has-row t _ n _ _ c.row.ensures _ c.is_of.ensures _ w.if-is_of.false))
     ]
 
 pub returns : goal.returns

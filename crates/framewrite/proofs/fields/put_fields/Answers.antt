@@ -1,8 +1,10 @@
 use native.Mathlib.Omega.{arith}
 use Prim.Native.Nat.{ℕ, ◌+◌}
 use mathlib.Core.List.{List}
-use mathlib.Core.Path.{subst⁻¹}
-use Rattle.frame.proofs.Lines.{has-row}
+use mathlib.Core.Path.{subst, subst⁻¹}
+use Rattle.frame.proofs.Lines.{tag-at, has-row}
+use Rattle.framewrite.specs.Field.{FieldRoom, FieldWritten}
+use Rattle.framewrite.specs.Fields.{content_of}
 use Rattle.framewrite.proofs.Rest.{Ahead, all-ahead, passed-by, room-ahead, one-laid, none_ahead}
 use Rattle.rules.proofs.BytesLaws.{each-intro}
 use Rattle.framewrite.proofs.fields.put_fields.Goals as goal
@@ -18,26 +20,30 @@ loop-tag-init c =
 pub put_tag-at-requires : goal.put_tag-at-requires
 put_tag-at-requires c =
     let l = c.loop-tag in
-    room-ahead _ _ _ _ _ _ _ l.invariant c.loop-tag-test.true (has-row l.tag _ _ c.row_of.ensures _ c.is_of.ensures _ c.if-is_of.true)
+    let a = c.args in
+    let n = tag-at l.tag-index c.loop-tag-test.true _ in
+    subst⁻¹ (λ t. FieldRoom t (content_of a.m a.ack.now a.text.now t) l.at l.d) n
+    (room-ahead _ _ _ _ _ _ _ l.invariant (omega arith) (has-row (l.tag-index + 1) _ n _ _ c.row.ensures _ c.is_of.ensures _ c.if-is_of.true))
 
 pub loop-tag-preserved : goal.loop-tag-preserved
 loop-tag-preserved c =
     let l = c.loop-tag in
     let a = c.args in
-    let t = c.loop-tag-test.true in
-    let Next : List ℕ → ℕ → Type 0 = λ d at. Ahead a.m a.ack.now a.text.now a.d.now d at (l.tag + 1) in
+    let i = l.tag-index + 1 in
+    let n = tag-at l.tag-index c.loop-tag-test.true _ in
+    let Next : List ℕ → ℕ → Type 0 = λ d at. Ahead a.m a.ack.now a.text.now a.d.now d at (i + 1) in
     elim c.if-is_of.branch [
       | then-is_of w ↦
-          subst⁻¹ (λ d. Next d c.if-is_of.at) w.d-is
-          (subst⁻¹ (Next w.put_tag-at.new.d) w.at-is
-          (one-laid _ _ _ _ _ _ _ l.invariant t (has-row l.tag _ _ c.row_of.ensures _ c.is_of.ensures _ w.if-is_of.true) w.put_tag-at.result w.put_tag-at.new.d w.put_tag-at.ensures w.put_tag-at.auto.d))
+          let r = w.put_tag-at.result in
+          let d = w.put_tag-at.new.d in
+          let written = subst (λ t. FieldWritten t (content_of a.m a.ack.now a.text.now t) l.at l.d r d) n w.put_tag-at.ensures in
+          subst⁻¹ (λ x. Next x c.if-is_of.at) w.d-is
+          (subst⁻¹ (Next d) w.at-is
+          (one-laid _ _ _ _ _ _ _ l.invariant (omega arith) (has-row i _ n _ _ c.row.ensures _ c.is_of.ensures _ w.if-is_of.true) r d written w.put_tag-at.auto.d))
       | else-is_of w ↦
-          subst⁻¹ (λ d. Next d c.if-is_of.at) w.d-is
-          (subst⁻¹ (Next l.d) w.at-is (passed-by _ _ _ _ _ _ _ l.invariant t (has-row l.tag _ _ c.row_of.ensures _ c.is_of.ensures _ w.if-is_of.false)))
+          subst⁻¹ (λ x. Next x c.if-is_of.at) w.d-is
+          (subst⁻¹ (Next l.d) w.at-is (passed-by _ _ _ _ _ _ _ l.invariant (omega arith) (has-row i _ n _ _ c.row.ensures _ c.is_of.ensures _ w.if-is_of.false)))
     ]
-
-pub shape_of-d : goal.shape_of-d
-shape_of-d c = c.loop-tag.invariant.long
 
 pub returns : goal.returns
 returns c = none_ahead _ _ _ _ _ _ _ c.loop-tag.invariant (omega arith)

@@ -5,4 +5,4 @@ use Rattle.steps.proofs.own.kept.Goals as goal
 
 pub overflow_cast-result : goal.overflow_cast-result
 unfolding free_places
-overflow_cast-result c = omega (arith, places-few c.args.c c.requires.0, c.free_places-buf.ensures)
+overflow_cast-result c = omega (arith, places-few c.args.r.core c.args.r.ranges, c.free_places-buf.ensures)

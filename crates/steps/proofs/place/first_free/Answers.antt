@@ -4,4 +4,6 @@ use Rattle.steps.proofs.RangeLaws.{free_of-le}
 use Rattle.steps.proofs.place.first_free.Goals as goal
 
 pub overflow_add-result : goal.overflow_add-result
-overflow_add-result c = omega (arith, c.free_slot.ensures, free_of-le c.args.c.order c.args.j (4 * c.args.c.w), c.requires.0, c.requires.1.1)
+overflow_add-result c =
+    let r = c.args.r in
+    omega (arith, c.free_slot.ensures, free_of-le r.core.order c.args.j (4 * r.core.w), r.ranges.narrow)

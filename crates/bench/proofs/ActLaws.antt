@@ -1,9 +1,10 @@
 -- What a command does with the group as the code holds it is what it does on the script's desk.
-use mathlib.Core.Bool.{Bool, true}
+use mathlib.Core.Bool.{Bool, true, false}
 use mathlib.Core.List.{List, append-nil}
 use mathlib.Core.Path.{◌≡◌, refl, sym, ap, ◌∙◌}
 use Prim.Native.Nat.{ℕ, ◌+◌, ◌-◌, ◌<◌, ◌≤◌, min}
 use native.Mathlib.Omega.{arith}
+use lib.Dec.{eqb}
 use lib.ListN.{length}
 use borrow.Author.Tests.{ne_eqb}
 use Rattle.rules.specs.Maps.{between, at}
@@ -13,8 +14,8 @@ use Rattle.rules.specs.Calls as rules
 use Rattle.rules.proofs.MapsLaws.{Lt?, lt, ge, lt?, is-between}
 use Rattle.std.specs.Prelude.{Option, Ok, Err}
 use Rattle.answers.specs.declared.Refusal.{Refusal}
-use Rattle.answers.specs.Answers.{Answered, number_of}
-use Rattle.answers.proofs.AnswersLaws.{number-not_zero}
+use Rattle.answers.specs.Answers.{Answered, number_of, refusal_of}
+use Rattle.answers.proofs.AnswersLaws.{refusal-number}
 use Rattle.steps.specs.declared.Resend.{Resend}
 use Rattle.handing.specs.Handing.{Given}
 use Rattle.unit.specs.declared.Unit.{Unit}
@@ -58,21 +59,29 @@ did-acts x e q =
       more = rw e x.more;
     }
 
+-- no refusal has the number 0: that of 0 is that of 1
+not-done : (r : Refusal) → eqb (number_of r) 0 ≡ false
+not-done r =
+    ne_eqb (number_of r) 0
+    (λ h.
+    let one : number_of r ≡ 1 = ap number_of (sym (refusal-number r)) ∙ ap (λ (k : ℕ). number_of (refusal_of k)) h in
+    omega (arith, one, h))
+
 -- the reply to a take is the script's
 reply-taken : (next : Unit) (t : Answered Taken) (out : List ℕ) → reply_of (taken_as t out) ≡ taking (meant (of_taken (next, t) out))
 unfolding reply_of
 reply-taken next (Ok t) out = refl
-reply-taken next (Err r) out = rw (ne_eqb (number_of r) 0 (number-not_zero r))
+reply-taken next (Err r) out = rw (not-done r)
 
 -- the frames that a call wrote are the script's
 wrote-sent : (next : Unit) (r : Answered Sent) (out : List ℕ)
     → frames_of (sent_len r) out ≡ wrote (meant (of_sent (next, r) out)) (at (meant (of_sent (next, r) out)).numbers 2)
 wrote-sent next (Ok s) out = refl
-wrote-sent next (Err r) out = rw (ne_eqb (number_of r) 0 (number-not_zero r))
+wrote-sent next (Err r) out = rw (not-done r)
 
 wrote-asked : (u : Unit) (r : Answered ℕ) (out : List ℕ) → frames_of r out ≡ wrote (meant (of_handed u r out)) (at (meant (of_handed u r out)).numbers 1)
 wrote-asked u (Ok m) out = refl
-wrote-asked u (Err r) out = rw (ne_eqb (number_of r) 0 (number-not_zero r))
+wrote-asked u (Err r) out = rw (not-done r)
 
 module _ (d : Desk) (u : ℕ) (N : Named d u) (long : length d.units ≡ 3) where
   abbrev x : Unit

@@ -1,22 +1,23 @@
 -- What the group shows with another unit, and with a frame more.
-use mathlib.Core.Bool.{Bool, true, false, cond}
+use mathlib.Core.Bool.{Bool, cond}
 use mathlib.Core.List.{List, [], ◌∷◌, ◌++◌, append-nil}
 use mathlib.Core.Path.{◌≡◌, refl, sym, ap, ◌∙◌, fun_ext}
 use Prim.Native.Nat.{ℕ, zero, suc, ◌+◌, ◌-◌, ◌<◌, ◌≤◌}
 use native.Mathlib.Omega.{arith}
 use native.Mathlib.Numerals.{add-one}
-use lib.Dec.{eqb}
 use lib.ListN.{length, get_or, take, set, length-append, get_or-append}
 use lib.Seq.{get_or-set_same, get_or-set_other, get_or_at, set-get_or}
 use Rattle.rules.specs.Maps.{upd}
 use Rattle.rules.specs.State.{closed}
 use Rattle.rules.proofs.MapsLaws.{Lt?, lt, ge, lt?, Eq?, same, other, eq?, is-between}
 use Rattle.tables.proofs.GridLaws.{Unit?, inside, outside, unit?}
+use Rattle.std.specs.Prelude.{Ok, Err}
+use Rattle.answers.specs.Answers.{Answered}
 use Rattle.unit.specs.declared.Unit.{Unit}
 use Rattle.unit.specs.View.{view}
 use Rattle.bench.specs.declared.desk.Frame.{Frame}
 use Rattle.bench.specs.declared.desk.Desk.{Desk}
-use Rattle.bench.specs.Desk.{no_unit, units_of, no_frame, frame_in, frames_in, desk_of, Fits, with_unit, with_frame, kept_in}
+use Rattle.bench.specs.Desk.{no_unit, units_of, no_frame, frame_in, frames_in, desk_of, Fits, with_unit, kept_in}
 
 -- ---- units
 
@@ -95,39 +96,31 @@ module _ (d : Desk) (fits : Fits d) (room : d.count < 64) (long : length d.frame
       go (same e) = rw (e, get_or-set_same d.frames d.count f no_frame (omega arith)) short
       go (other n) = rw (get_or-set_other d.frames d.count i f no_frame n) (fits.lengths i (omega arith))
 
-  -- what is kept of an answer
-  pub kept-shows : (answer : ℕ)
-      → desk_of (kept_in d answer f)
-      ≡ record {
-        n = d.n;
-        units = units_of d.units;
-        frames = frames_in d.frames d.count ++ cond (eqb answer 0) (take f.len f.bytes ∷ []) [];
-      }
-  unfolding kept_in
-  kept-shows answer = go (eqb answer 0)
-    where
-      go : (t : Bool)
-          → desk_of (cond t (with_frame d f) d)
-          ≡ record {
-            n = d.n;
-            units = units_of d.units;
-            frames = frames_in d.frames d.count ++ cond t (take f.len f.bytes ∷ []) [];
-          }
-      go true = rw frames-more
-      go false = rw append-nil
+-- the length of what was written; 0 where a call refused
+abbrev pub length_of : Answered ℕ → ℕ
+length_of (Ok len) = len
+length_of (Err r) = 0
 
-  pub kept-fits : (answer : ℕ) → Fits (kept_in d answer f)
-  unfolding kept_in
-  kept-fits answer = go (eqb answer 0)
-    where
-      go : (t : Bool) → Fits (cond t (with_frame d f) d)
-      go true = record { units = fits.units; frames = omega arith; lengths = lengths-more }
-      go false = fits
+-- the frames that a call wrote: one, or none
+abbrev pub frames_of : Answered ℕ → List ℕ → List (List ℕ)
+frames_of (Ok len) bytes = take len bytes ∷ []
+frames_of (Err r) bytes = []
 
-  pub kept_more : (answer : ℕ) → (kept_in d answer f).count ≤ d.count + 1
+-- what is kept of a call
+module _ (d : Desk) (fits : Fits d) (room : d.count < 64) (long : length d.frames ≡ 64) (bytes : List ℕ) where
+  pub kept-shows : (r : Answered ℕ) → length_of r ≤ 117
+      → desk_of (kept_in d r bytes) ≡ record { n = d.n; units = units_of d.units; frames = frames_in d.frames d.count ++ frames_of r bytes }
   unfolding kept_in
-  kept_more answer = go (eqb answer 0)
-    where
-      go : (t : Bool) → (cond t (with_frame d f) d).count ≤ d.count + 1
-      go true = omega arith
-      go false = omega arith
+  kept-shows (Ok len) short = rw (frames-more d fits room long (record { bytes = bytes; len = len }) short)
+  kept-shows (Err r) short = rw append-nil
+
+  pub kept-fits : (r : Answered ℕ) → length_of r ≤ 117 → Fits (kept_in d r bytes)
+  unfolding kept_in
+  kept-fits (Ok len) short =
+      record { units = fits.units; frames = omega arith; lengths = lengths-more d fits room long (record { bytes = bytes; len = len }) short }
+  kept-fits (Err r) short = fits
+
+  pub kept_more : (r : Answered ℕ) → (kept_in d r bytes).count ≤ d.count + 1
+  unfolding kept_in
+  kept_more (Ok len) = omega arith
+  kept_more (Err r) = omega arith

@@ -155,7 +155,12 @@ module _ (b₀ : Bench) (part out₀ : List ℕ) where
     unfolding part_said
     fed-all h =
         record {
-          tells = record { next = ap (λ (s : Said). s.next) exact; text = rw (← ap (λ (s : Said). s.text) exact) f.printed; short = omega (arith, f.short, f.within); ready = f.ready };
+          tells = record {
+            next = ap (λ (s : Said). s.next) exact;
+            text = rw (← ap (λ (s : Said). s.text) exact) f.printed;
+            short = omega (arith, f.short, f.within);
+            ready = f.ready;
+          };
           means = ap as_script (sym exact) ∙ means;
         }
       where

@@ -1,49 +1,46 @@
 -- What a call writes fits into the output that it was lent.
-use mathlib.Core.Bool.{Bool, true, false, cond}
 use mathlib.Core.List.{List}
-use mathlib.Core.Path.{◌≡◌, refl}
-use Prim.Native.Nat.{ℕ, ◌+◌, ◌*◌, ◌≤◌}
+use mathlib.Core.Path.{◌≡◌}
+use Prim.Native.Nat.{ℕ, ◌≤◌}
 use native.Mathlib.Omega.{arith}
-use lib.Dec.{eqb}
-use lib.ListN.{length, drop, length-append}
+use lib.ListN.{length, drop, length-append, length-take}
 use borrow.Author.Tests.{ltb-false}
+use Rattle.std.specs.Prelude.{Ok, Err}
 use Rattle.rules.specs.Message.{request, encode}
-use Rattle.rules.specs.Calls.{Check, written}
+use Rattle.rules.specs.Calls.{Check}
 use Rattle.rules.proofs.CallsLaws.{Passed, decide-cases}
+use Rattle.rules.proofs.MessageLaws.{length-request}
+use Rattle.answers.specs.Answers.{Answered}
 use Rattle.state.specs.declared.Core.{Core}
 use Rattle.steps.specs.declared.Sending.{Sending}
 use Rattle.steps.specs.Sending.{sending_of}
 use Rattle.steps.specs.Means.{own_frame}
-use Rattle.handing.specs.declared.Handed.{Handed}
-use Rattle.handing.specs.Handing.{Given, giving, asking_of, asking_checks, not_handed, handed, request_for}
+use Rattle.handing.specs.Handing.{Given, refusing, done_with, giving, asking_of, asking_checks, request_for}
 use Rattle.unit.specs.declared.Unit.{Unit}
-use Rattle.unit.specs.declared.Sent.{Sent}
-use Rattle.unit.specs.Exact.{done_send, refused_send, sent_by, sent_of}
+use Rattle.unit.specs.Exact.{sent_by, sent_of}
+use Rattle.bench.specs.Commands.{sent_len}
+use Rattle.bench.proofs.DeskLaws.{length_of}
 
 -- the output stays as long as it was
-pub sent-len : (u : Unit) (d out : List ℕ) → length (sent_of u d out).output ≡ length out → (sent_of u d out).result.len ≤ length out
-unfolding sent_of sent_by
-sent-len u d out = go (eqb s.answer 0)
-  where
-    s : Sending
-    s = sending_of u.core u.acks (length d) (length out)
+module _ (out : List ℕ) where
+  pub sent-len : (u : Unit) (d : List ℕ) → length (sent_of u d out).output ≡ length out
+      → length_of (sent_len (sent_of u d out).result.1) ≤ length out
+  unfolding sent_of sent_by
+  sent-len u d = go (sending_of u.core u.acks (length d) (length out))
+    where
+      go : (s : Answered Sending) → length (sent_by u d out s).output ≡ length out → length_of (sent_len (sent_by u d out s).result.1) ≤ length out
+      go (Ok s) e =
+          let f = own_frame u.core s.buf d in
+          omega (arith, e, length-append f (drop (length f) out))
+      go (Err r) e = omega arith
 
-    given : Bool → Given Sent
-    given t = cond t (done_send u d out s) (refused_send u out s.answer)
+  -- a refusal hands back no length, and else the lent output was long enough
+  given-len : (checks : List Check) (m : ℕ) (l : List ℕ) → (Passed checks → m ≤ length out) → length_of (giving checks m l out).result ≤ length out
+  given-len checks m l =
+      decide-cases (λ (g : Given (Answered ℕ)). length_of g.result ≤ length out) (refusing out) (done_with m l out) checks (λ a r. omega arith)
 
-    go : (t : Bool) → length (given t).output ≡ length out → (given t).result.len ≤ length out
-    go true e = omega (arith, length-append (own_frame u.core s.buf d) (drop (length (own_frame u.core s.buf d)) out))
-    go false e = omega arith
-
--- a refusal handed back no length, or the lent output was long enough
-given-len : {A : Type 0} (len : A → ℕ) (checks : List Check) (refused : ℕ → A) (done : A) (l out : List ℕ) → ((a : ℕ) → len (refused a) ≡ 0)
-    → (Passed checks → len done ≤ length out) → len (giving checks refused done l out).result ≤ length out
-given-len {A} len checks refused done l out none enough =
-    decide-cases (λ (g : Given A). len g.result ≤ length out) (λ a. record { result = refused a; output = out }) (record { result = done; output = written out l })
-    checks (λ a r. omega (arith, none a)) enough
-
-pub asked-len : (c : Core) (acks : List ℕ) (k : ℕ) (out : List ℕ) → (asking_of c acks k out).result.len ≤ length out
-unfolding asking_of
-asked-len c acks k out =
-    given-len (λ (h : Handed). h.len) (asking_checks c acks k out) not_handed (handed 0 (33 + 4 * c.n)) (encode (request (request_for c k))) out (λ a. refl)
-    (λ passed. ltb-false _ _ passed.1.1.1.0)
+  pub asked-len : (c : Core) (acks : List ℕ) (k : ℕ) → length_of (asking_of c acks k out).result ≤ length out
+  unfolding asking_of
+  asked-len c acks k =
+      given-len (asking_checks c acks k out) (length (encode (request (request_for c k)))) (encode (request (request_for c k)))
+      (λ passed. omega (arith, ltb-false _ _ passed.1.1.1.0, length-request (request_for c k), length-take c.n c.req))

@@ -28,7 +28,8 @@ use Rattle.script.specs.Print.{reply_line}
 use Rattle.bench.specs.declared.reply.Reply.{Reply}
 use Rattle.bench.specs.Prints.{Prints, PrintsLine}
 use Rattle.bench.specs.Commands.{reply_of, Acts}
-use Rattle.bench.specs.Reading.{stage_of, reader_of, FitsLine, begins_with, command_of, stage_said, line_said, stage_ends, end_said, Steps, Moves, Starts, Reads, Ends}
+use Rattle.bench.specs.Reading.{stage_of, reader_of, begins_with, command_of, stage_said, line_said, stage_ends, end_said}
+use Rattle.bench.specs.Reading.{FitsLine, Steps, Moves, Starts, Reads, Ends}
 use Rattle.bench.proofs.PrintLaws.{wrote-prints, no-group-short, group-short}
 use Rattle.bench.proofs.StartLaws.{started-fits}
 use Rattle.bench.proofs.ReadLaws.{range-few, first-means, later-means, over-means, line-read}

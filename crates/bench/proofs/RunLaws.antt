@@ -43,7 +43,8 @@ read-turns b part t =
 abbrev reached : Bench → List ℕ → Read
 reached b text = record { next = reader_of b; text = text }
 
-part-reached : (b : Bench) (part : List ℕ) {out out' : List ℕ} {most len : ℕ} {e : Bench} → Reads (part_said b part) (read_part (reader_of b) part) most out e len out'
+part-reached : (b : Bench) (part : List ℕ) {out out' : List ℕ} {most len : ℕ} {e : Bench}
+    → Reads (part_said b part) (read_part (reader_of b) part) most out e len out'
     → read_part (reader_of b) part ≡ reached e (take len out')
 part-reached b part t = sym t.means ∙ (rw (t.tells.next, prints-text t.tells.text))
 

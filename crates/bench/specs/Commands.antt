@@ -1,11 +1,11 @@
 -- What each command does with the group as the code holds it, and that this is what the script's desk does.
-use Rattle.std.specs.Prelude.{Bool, true, cond, ◌&&◌, ◌≡◌, ℕ, ◌+◌, ◌-◌, ◌<◌, ◌≤◌, min, eqb, take}
+use Rattle.std.specs.Prelude.{Bool, true, cond, ◌&&◌, List, ◌≡◌, ℕ, ◌+◌, ◌-◌, ◌<◌, ◌≤◌, min, take, Option, Ok, Err}
 use Rattle.rules.specs.Maps.{between}
-use Rattle.handing.specs.declared.Handed.{Handed}
+use Rattle.answers.specs.Answers.{Answered, answer_of, number_of}
+use Rattle.steps.specs.declared.Resend.{Resend}
 use Rattle.handing.specs.Handing.{Given, asking_of}
 use Rattle.unit.specs.declared.Unit.{Unit}
 use Rattle.unit.specs.declared.Sent.{Sent}
-use Rattle.unit.specs.declared.Arrived.{Arrived}
 use Rattle.handing.specs.declared.Taken.{Taken}
 use Rattle.unit.specs.Exact.{sent_of, arrived_of, taken_of}
 use Rattle.script.specs.Items.{Command, groups, sends, arrives, requests, takes, unreadable}
@@ -38,31 +38,36 @@ ignored d = record { desk = d; reply = Unknown }
 
 -- ---- what the call on unit u gave
 
-abbrev pub after_send : Desk → ℕ → Given Sent → Acted
+-- the length of the frame that was sent
+abbrev pub sent_len : Answered Sent → Answered ℕ
+sent_len (Ok s) = Ok s.len
+sent_len (Err r) = Err r
+
+abbrev pub after_send : Desk → ℕ → Given (Unit × Answered Sent) → Acted
 after_send d u g =
-    let s : Sent = g.result in
-    record { desk = kept_in (with_unit d u s.unit) s.answer (record { bytes = g.output; len = s.len }); reply = Answers s.answer }
+    let r : Unit × Answered Sent = g.result in
+    record { desk = kept_in (with_unit d u r.0) (sent_len r.1) g.output; reply = Answers (answer_of r.1) }
 
-abbrev pub after_arrival : Desk → ℕ → Arrived → Acted
-after_arrival d u a = record { desk = with_unit d u a.unit; reply = Answers a.answer }
+abbrev pub after_arrival : Desk → ℕ → Unit × Answered (Option Resend) → Acted
+after_arrival d u r = record { desk = with_unit d u r.0; reply = Answers (answer_of r.1) }
 
-abbrev pub after_request : Desk → Given Handed → Acted
-after_request d g =
-    let h : Handed = g.result in
-    record { desk = kept_in d h.answer (record { bytes = g.output; len = h.len }); reply = Answers h.answer }
+abbrev pub after_request : Desk → Given (Answered ℕ) → Acted
+after_request d g = record { desk = kept_in d g.result g.output; reply = Answers (answer_of g.result) }
 
-abbrev pub after_take : Desk → ℕ → Given Taken → Acted
+-- a message is shown, with the output that its word stands in
+abbrev pub taken_as : Answered Taken → List ℕ → Reply
+taken_as (Ok t) out = Took t.src t.seq out t.len
+taken_as (Err r) out = Answers (number_of r)
+
+abbrev pub after_take : Desk → ℕ → Given (Unit × Answered Taken) → Acted
 after_take d u g =
-    let t : Taken = g.result in
-    record {
-      desk = with_unit d u t.unit;
-      reply = cond (eqb t.answer 0) (Took t.src t.seq g.output t.len) (Answers t.answer);
-    }
+    let r : Unit × Answered Taken = g.result in
+    record { desk = with_unit d u r.0; reply = taken_as r.1 g.output }
 
 -- ---- commands
 
 -- a number past 255 names no unit, as 255 does
-abbrev pub asked : Unit → ℕ → Given Handed
+abbrev pub asked : Unit → ℕ → Given (Answered ℕ)
 asked x k = asking_of x.core x.acks (min k 255) (lent 117)
 
 unfoldable pub acted_of : Desk → Command → Acted

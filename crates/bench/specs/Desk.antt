@@ -1,7 +1,8 @@
 -- The group on the bench as the code holds it: what it shows of the script's desk, opened, and with a frame more.
-use Rattle.std.specs.Prelude.{cond, List, [], ◌∷◌, ◌++◌, ℕ, zero, suc, ◌+◌, ◌-◌, ◌<◌, ◌≤◌, eqb, get_or, set, take, replicate}
+use Rattle.std.specs.Prelude.{cond, List, [], ◌∷◌, ◌++◌, ℕ, zero, suc, ◌+◌, ◌-◌, ◌<◌, ◌≤◌, get_or, set, take, replicate, Ok, Err}
 use Rattle.rules.specs.Maps.{between}
 use Rattle.rules.specs.State.{State, closed}
+use Rattle.answers.specs.Answers.{Answered}
 use Rattle.unit.specs.declared.Unit.{Unit}
 use Rattle.unit.specs.View.{view}
 use Rattle.unit.specs.Exact.{opened_of}
@@ -68,7 +69,7 @@ pub record Fits (d : Desk) : Type 0 where
 
 -- unit `me`, with CID 1 and first numbers 1
 unfoldable pub started_unit : ℕ → ℕ → ℕ → Unit
-started_unit me n w = (opened_of (record { me = me; n = n; w = w; cid = 1; first = replicate 8 1 })).unit
+started_unit me n w = (opened_of (record { me = me; n = n; w = w; cid = 1; first = replicate 8 1 })).0
 
 unfoldable pub started_desk : ℕ → ℕ → Desk
 started_desk n w =
@@ -87,6 +88,7 @@ with_unit d u x = record { n = d.n; units = set d.units (u - 1) x; frames = d.fr
 abbrev pub with_frame : Desk → Frame → Desk
 with_frame d f = record { n = d.n; units = d.units; frames = set d.frames d.count f; count = d.count + 1 }
 
--- where a call answered 0, what it wrote is the next frame
-unfoldable pub kept_in : Desk → ℕ → Frame → Desk
-kept_in d answer f = cond (eqb answer 0) (with_frame d f) d
+-- where a call was done, what it wrote is the next frame: so many of these bytes
+unfoldable pub kept_in : Desk → Answered ℕ → List ℕ → Desk
+kept_in d (Ok len) bytes = with_frame d (record { bytes = bytes; len = len })
+kept_in d (Err r) bytes = d

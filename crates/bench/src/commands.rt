@@ -5,8 +5,9 @@ ghost use Rattle.script.specs.Items.{sends, arrives, requests, takes};
 ghost use Rattle.script.specs.Shown.{said};
 ghost use Rattle.bench.specs.Commands.{Named, CanWrite, CanHear, CanAct, names_known, Acts};
 
-use crate::desk::{Desk, Frame};
+use crate::desk::Desk;
 use crate::reply::Reply;
+use answers::answer;
 use script::line::Line;
 use unit::Unit;
 
@@ -49,13 +50,11 @@ fn send(d: &mut Desk, u: u32, word: &[u8]) -> Reply
     ensures { Acts d.old (sends u word.now) d.new result }
 {
     let i = u as usize - 1;
-    let x = d.units[i];
     let mut bytes = [0u8; Unit::MOST_FRAME];
-    let s = x.send(word, &mut bytes);
-    let y = s.unit;
-    d.units[i] = y;
-    d.keep(s.answer, Frame { bytes, len: s.len });
-    Reply::Answers(s.answer)
+    let (unit, sent) = d.units[i].send(word, &mut bytes);
+    d.units[i] = unit;
+    d.keep(sent.map(|s| s.len), bytes);
+    Reply::Answers(answer(&sent))
 }
 
 fn arrive(d: &mut Desk, u: u32, f: u32) -> Reply
@@ -63,12 +62,10 @@ fn arrive(d: &mut Desk, u: u32, f: u32) -> Reply
     ensures { Acts d.old (arrives u f) d.new result }
 {
     let i = u as usize - 1;
-    let x = d.units[i];
     let frame = d.frames[f as usize - 1];
-    let a = x.arrive(&frame.bytes[..frame.len]);
-    let y = a.unit;
-    d.units[i] = y;
-    Reply::Answers(a.answer)
+    let (unit, arrived) = d.units[i].arrive(&frame.bytes[..frame.len]);
+    d.units[i] = unit;
+    Reply::Answers(answer(&arrived))
 }
 
 fn request(d: &mut Desk, u: u32, k: u32) -> Reply
@@ -76,11 +73,10 @@ fn request(d: &mut Desk, u: u32, k: u32) -> Reply
     ensures { Acts d.old (requests u k) d.new result }
 {
     let i = u as usize - 1;
-    let x = d.units[i];
     let mut bytes = [0u8; Unit::MOST_FRAME];
-    let h = x.request(number_of(k), &mut bytes);
-    d.keep(h.answer, Frame { bytes, len: h.len });
-    Reply::Answers(h.answer)
+    let asked = d.units[i].request(number_of(k), &mut bytes);
+    d.keep(asked, bytes);
+    Reply::Answers(answer(&asked))
 }
 
 fn take(d: &mut Desk, u: u32) -> Reply
@@ -88,19 +84,17 @@ fn take(d: &mut Desk, u: u32) -> Reply
     ensures { Acts d.old (takes u) d.new result }
 {
     let i = u as usize - 1;
-    let x = d.units[i];
     let mut word = [0u8; Unit::MOST_DATA];
-    let t = x.take(&mut word);
-    let y = t.unit;
-    d.units[i] = y;
-    if t.answer != 0 {
-        return Reply::Answers(t.answer);
-    }
-    Reply::Took {
-        sender: t.src,
-        number: t.seq,
-        word,
-        len: t.len,
+    let (unit, taken) = d.units[i].take(&mut word);
+    d.units[i] = unit;
+    match taken {
+        Err(refusal) => Reply::Answers(u32::from(refusal)),
+        Ok(t) => Reply::Took {
+            sender: t.src,
+            number: t.seq,
+            word,
+            len: t.len,
+        },
     }
 }
 

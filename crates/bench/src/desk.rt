@@ -2,12 +2,13 @@
 ghost use Rattle.std.specs.Prelude.{◌≡◌, ◌<◌};
 ghost use Rattle.bench.specs.Desk.{started_unit, started_desk, kept_in};
 
+use answers::Refusal;
 use state::Opening;
 use unit::Unit;
 
 // A frame: the first len of these bytes.
-// Kept: `len ≤ 117` was tried as a ghost field; then `after_send` and `after_request` (Commands), which make a frame of
-// whatever length a call answers, can no longer be stated. It stands in `Fits`.
+// Kept: `len ≤ 117` was tried as a ghost field; then `kept_in` (specs), which makes a frame of whatever length a call
+// gives, can no longer be stated. It stands in `Fits`.
 #[derive(Clone, Copy)]
 pub struct Frame {
     pub bytes: [u8; Unit::MOST_FRAME],
@@ -25,18 +26,18 @@ pub struct Desk {
 }
 
 // Unit `me` of a group: CID 1, first numbers 1; closed where there is no such unit.
+#[tactic(auto, unfolding(crate::specs::Desk::started_unit))]
 fn opened_unit(me: u8, n: u8, w: u8) -> Unit
     ensures { result ≡ started_unit me n w }
 {
-    let o = Unit::open(Opening {
+    Unit::open(Opening {
         me,
         n,
         w,
         cid: 1,
         first: [1u32; 8],
-    });
-    let u = o.unit;
-    u
+    })
+    .0
 }
 
 impl Desk {
@@ -46,6 +47,7 @@ impl Desk {
     pub const FRAMES: usize = 64;
 
     // A group of n units with window w, and no frame yet.
+    #[tactic(auto, unfolding(crate::specs::Desk::started_desk))]
     pub fn open(n: u8, w: u8) -> Self
         ensures { result ≡ started_desk n w }
     {
@@ -64,13 +66,14 @@ impl Desk {
         }
     }
 
-    // Where a call answered 0, this is the next frame.
-    pub fn keep(&mut self, answer: u32, frame: Frame)
+    // Where a call wrote a frame, so many of these bytes, it is the next one.
+    #[tactic(auto, unfolding(crate::specs::Desk::kept_in))]
+    pub fn keep(&mut self, written: Result<usize, Refusal>, bytes: [u8; Unit::MOST_FRAME])
         requires { self.old.count < 64 }
-        ensures { self.new ≡ kept_in self.old answer frame }
+        ensures { self.new ≡ kept_in self.old written bytes }
     {
-        if answer == 0 {
-            self.frames[self.count] = frame;
+        if let Ok(len) = written {
+            self.frames[self.count] = Frame { bytes, len };
             self.count += 1;
         }
     }

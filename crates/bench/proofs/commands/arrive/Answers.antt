@@ -9,6 +9,6 @@ pub returns : goal.returns
 returns c =
     let d = c.args.d.now in
     let H = c.requires in
-    let a = c.arrive-a in
+    let r = c.arrive-arrived in
     let units : length d.units ≡ 3 = search rules in
-    did-acts (arrived-did d c.args.u H.unit units c.args.f H.low H.high a.result a.ensures) refl refl
+    did-acts (arrived-did d c.args.u H.unit units c.args.f H.low H.high r.result r.ensures) refl (rw c.answer.ensures)

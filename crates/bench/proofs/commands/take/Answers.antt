@@ -5,16 +5,16 @@ use borrow.Author.Rules.{rules}
 use Rattle.bench.proofs.ActLaws.{did-acts, refused_did, took-did}
 use Rattle.bench.proofs.commands.take.Goals as goal
 
-pub returns-then-t-ne0 : goal.returns-then-t-ne0
-returns-then-t-ne0 c =
+pub returns-in-Err : goal.returns-in-Err
+returns-in-Err c =
     let d = c.args.d.now in
-    let t = c.take-t in
+    let r = c.take-taken in
     let units : length d.units ≡ 3 = search rules in
-    did-acts (refused_did d c.args.u c.requires units t.result _ t.ensures c.if-t-ne0.true) refl refl
+    did-acts (refused_did d c.args.u c.requires units r.result _ r.ensures c.in-Err.refusal c.in-Err.is) refl (rw c.from.ensures)
 
-pub returns : goal.returns
-returns c =
+pub returns-in-Ok : goal.returns-in-Ok
+returns-in-Ok c =
     let d = c.args.d.now in
-    let t = c.take-t in
+    let r = c.take-taken in
     let units : length d.units ≡ 3 = search rules in
-    did-acts (took-did d c.args.u c.requires units t.result _ t.ensures c.if-t-ne0.false) refl refl
+    did-acts (took-did d c.args.u c.requires units r.result _ r.ensures c.in-Ok.t c.in-Ok.is) refl refl

@@ -32,6 +32,8 @@ fn length_of(others: u8, n: usize, text_len: usize, room: usize) -> Result<usize
     Ok(len)
 }
 
+// Kept: n beside the eight numbers, since the contract answers for every n, also one past 8 (docs/CONTRACTS.md).
+
 // The frame of a data message, written to the front of the output, and its length. Refused with NoSuchUnit where n is not
 // 2 to 8, TooLong where the data are over 48 bytes, OutputTooShort where it does not fit. The first n of ack count.
 pub fn write_data(

@@ -4,6 +4,9 @@ ghost use Rattle.std.proofs.lemmas.List.Edits.{sets};
 ghost use Rattle.rules.specs.Bytes.{bytes, all_bytes};
 ghost use Rattle.rules.specs.Lawful.{Each};
 
+// Kept: d and at as two parameters, here and in field.rt: a struct of both would hold a lent `&mut`, to be lent on at each
+// call. Kept: w as a number up to 4, since it is the table's width.
+
 // Writes a number of w bytes at a place.
 pub fn put_number(d: &mut [u8], at: usize, w: usize, x: u32)
     requires { (w ≤ 4) × (x < 256 ^ w) × (at + w ≤ length d.old) }

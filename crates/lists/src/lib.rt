@@ -76,6 +76,7 @@ fn slots(o: Order, j: u8) -> [bool; 16]
 }
 
 // The first of sender j's slots 0 to most - 1 that is free; most where none is.
+// Kept: a number and no Option, since steps counts a place from it on, also where none is free (`free_place`, its contract).
 pub fn free_slot(o: Order, j: u8, most: u8) -> u8
     ensures { result ≡ free_of o j most }
 {

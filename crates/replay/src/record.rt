@@ -17,7 +17,8 @@ pub fn number_at(s: &[u8], at: usize) -> u32
     ])
 }
 
-// Those of the 200 bytes that count.
+// Those of the 200 bytes that count. Kept: 208 bytes as a length in four contracts; as an array each record would first be
+// made one, `<&[u8; 208]>::try_from(&input[from..to])` with an `unwrap` to prove, which is no plainer.
 pub fn text(s: &[u8]) -> &[u8]
     requires { 208 ≤ length s.now }
     ensures { result.now ≡ text_of s.now }
@@ -32,7 +33,7 @@ fn four(x: usize) -> [u8; 4]
     ((x % 4294967296) as u32).to_be_bytes()
 }
 
-// Answer and numbers of a call, as the reply starts with them.
+// Answer and numbers of a call, as the reply starts with them. Kept: the answer as a number, since its byte is written.
 pub fn head(answer: u32, a: usize, b: usize, c: usize) -> [u8; 16]
     ensures { result ≡ head_of answer a b c }
 {

@@ -13,7 +13,7 @@ pub const LONGEST: usize = 80;
 #[derive(Clone, Copy)]
 pub enum Line {
     Group(Group),
-    // The word is the last len bytes of the line.
+    // The word is the last len bytes of the line. Kept: its length, since a slice would hold the line that `Collector` keeps.
     Send { unit: u32, len: usize },
     Arrive { unit: u32, frame: u32 },
     Request { unit: u32, other: u32 },

@@ -56,6 +56,7 @@ pub fn no_group_line(out: &mut [u8]) -> Option<usize>
     Some(put(out, 0, b"group ?\n"))
 }
 
+// Kept: an answer number, since that is what is printed, and its contract speaks of every number.
 pub fn answer_line(out: &mut [u8], line: u32, answer: u32) -> Option<usize>
     ensures { Wrote out.old (reply_line line (answers answer)) result out.new }
 {

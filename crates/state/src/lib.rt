@@ -106,6 +106,9 @@ pub fn free_places(c: Core) -> u32
     places(c.w, c.n).saturating_sub(lists::taken(c.order) as u32)
 }
 
+// Kept: c and acks as two parameters here and in handing and steps, since a rule of the project lends the large arrays and
+// passes the small numbers by value; a struct of both would be a second unit.
+
 // Refuses a unit that is not sound.
 pub fn checked(c: Core, acks: &[u32]) -> Result<(), Refusal>
     ensures { result ≡ judged (not_sound c acks.now) tt }

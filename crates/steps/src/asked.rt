@@ -11,60 +11,75 @@ use state;
 use state::Core;
 use tables;
 
-#[tactic(auto, unfolding(crate::specs::Checks::names_other))]
-fn names_other(c: Core, f: Request) -> bool
-    ensures { result ≡ names_other c f }
-{
-    state::is_unit(c.n, f.lsrc) && f.lsrc != f.head.src
+// A request that has come to a unit.
+#[derive(Clone, Copy)]
+pub struct Asking {
+    pub at: Core,
+    pub request: Request,
 }
 
-#[tactic(auto, unfolding(crate::specs::Checks::asks_wrongly))]
-fn asks_wrongly(c: Core, f: Request) -> bool
-    ensures { result ≡ asks_wrongly c f }
-{
-    let own = tables::at(&f.head.ack, c.me);
-    c.seq < own || c.seq < f.lseq || f.lseq <= own
-}
+impl Asking {
+    #[tactic(auto, unfolding(crate::specs::Checks::names_other))]
+    fn names_other(self) -> bool
+        ensures { result ≡ names_other self.at self.request }
+    {
+        let f = self.request;
+        state::is_unit(self.at.n, f.lsrc) && f.lsrc != f.head.src
+    }
 
-// The first number to resend.
-#[tactic(auto, unfolding(crate::specs::Checks::resend_from))]
-fn first(c: Core, f: Request) -> u32
-    ensures { result ≡ resend_from c f }
-{
-    tables::at(&f.head.ack, c.me).max(state::own_low(&c.al, c.me, c.n))
-}
+    #[tactic(auto, unfolding(crate::specs::Checks::asks_wrongly))]
+    fn asks_wrongly(self) -> bool
+        ensures { result ≡ asks_wrongly self.at self.request }
+    {
+        let seq = self.at.seq;
+        let f = self.request;
+        let own = tables::at(&f.head.ack, self.at.me);
+        seq < own || seq < f.lseq || f.lseq <= own
+    }
 
-fn checks(c: Core, f: Request) -> Result<(), Refusal>
-    ensures { result ≡ judged (request_checks c f) tt }
-{
-    if f.head.cid != c.cid {
-        return Err(Refusal::OtherGroup);
+    // The first number to resend.
+    #[tactic(auto, unfolding(crate::specs::Checks::resend_from))]
+    fn first(self) -> u32
+        ensures { result ≡ resend_from self.at self.request }
+    {
+        let c = self.at;
+        tables::at(&self.request.head.ack, c.me).max(state::own_low(&c.al, c.me, c.n))
     }
-    if !(of_group(c, f.head) && names_other(c, f)) {
-        return Err(Refusal::NoSuchUnit);
-    }
-    if f.head.src == c.me as u32 {
-        return Err(Refusal::OwnFrame);
-    }
-    if f.lsrc != c.me as u32 {
-        return Err(Refusal::ForAnother);
-    }
-    if asks_wrongly(c, f) {
-        return Err(Refusal::Impossible);
-    }
-    if f.lseq <= first(c, f) {
-        return Err(Refusal::Nothing);
-    }
-    Ok(())
-}
 
-#[tactic(auto, unfolding(crate::specs::Arrival::request_arrival))]
-pub fn arrived(c: Core, f: Request) -> Result<Arrival, Refusal>
-    ensures { result ≡ request_arrival c f }
-{
-    checks(c, f)?;
-    Ok(Arrival::Asked(Resend {
-        first: first(c, f),
-        last: f.lseq - 1,
-    }))
+    fn checks(self) -> Result<(), Refusal>
+        ensures { result ≡ judged (request_checks self.at self.request) tt }
+    {
+        let c = self.at;
+        let f = self.request;
+        if f.head.cid != c.cid {
+            return Err(Refusal::OtherGroup);
+        }
+        if !(of_group(c, f.head) && self.names_other()) {
+            return Err(Refusal::NoSuchUnit);
+        }
+        if f.head.src == c.me as u32 {
+            return Err(Refusal::OwnFrame);
+        }
+        if f.lsrc != c.me as u32 {
+            return Err(Refusal::ForAnother);
+        }
+        if self.asks_wrongly() {
+            return Err(Refusal::Impossible);
+        }
+        if f.lseq <= self.first() {
+            return Err(Refusal::Nothing);
+        }
+        Ok(())
+    }
+
+    #[tactic(auto, unfolding(crate::specs::Arrival::request_arrival))]
+    pub fn arrived(self) -> Result<Arrival, Refusal>
+        ensures { result ≡ request_arrival self.at self.request }
+    {
+        self.checks()?;
+        Ok(Arrival::Asked(Resend {
+            first: self.first(),
+            last: self.request.lseq - 1,
+        }))
+    }
 }

@@ -14,6 +14,7 @@ ghost use Rattle.steps.specs.Checks.{of_group};
 ghost use Rattle.steps.specs.Sending.{sending_of};
 
 use answers::Refusal;
+use asked::Asking;
 use frame;
 use frame::{Frame, Head};
 use ranged::Ranged;
@@ -73,7 +74,7 @@ pub fn arrive<'a>(c: Core, acks: &'a [u32], s: &'a [u8]) -> (Core, Result<Arriva
     match frame::read(s) {
         None => (c, Err(Refusal::NotAFrame)),
         Some(Frame::Data(f)) => data::arrived(Ranged { core: c }, f),
-        Some(Frame::Request(f)) => (c, asked::arrived(c, f)),
+        Some(Frame::Request(request)) => (c, Asking { at: c, request }.arrived()),
     }
 }
 

@@ -22,6 +22,7 @@ use store;
 use store::arrays;
 
 // A unit of a group: its numbers, ACK and data of its places, and the frames that it keeps.
+// Kept: flat arrays beside the numbers, since a rule of the project is fixed memory, and flat arrays can be lent.
 #[derive(Clone, Copy)]
 pub struct Unit {
     pub core: Core,
@@ -121,16 +122,14 @@ impl Unit {
     pub fn request(self, k: u8, out: &mut [u8]) -> Result<usize, Refusal>
         ensures { Asks self k out.old result out.new }
     {
-        let c = self.core;
-        handing::asking(c, &self.acks, k, out)
+        handing::asking(self.core, &self.acks, k, out)
     }
 
     // Copies out the kept frame of number x, exactly as first sent, and gives its length. Refusals: 1, 18, 16.
     pub fn copy(self, x: u32, out: &mut [u8]) -> Result<usize, Refusal>
         ensures { Copies self x out.old result out.new }
     {
-        let c = self.core;
-        handing::copying(c, &self.acks, &self.frames, x, out)
+        handing::copying(self.core, &self.acks, &self.frames, x, out)
     }
 
     // Takes the oldest confirmed message: its data stand at the front of the output. Refusals: 1, 18, 16.
@@ -142,51 +141,47 @@ impl Unit {
         (self, taken)
     }
 
+    // Kept: five looks, whose one line each names its own look at the numbers; their contract is one, `Looks`.
+
     // How many messages can be taken. Looks refuse with 1 where the unit is not sound, and with 5 where k is no unit.
     pub fn to_take(self) -> Result<usize, Refusal>
         ensures { Looks count_alone (to_take_in self.core self.acks) (rules.to_take (view self)) result }
     {
-        let c = self.core;
-        looks::to_take(c, &self.acks)
+        looks::to_take(self.core, &self.acks)
     }
 
     // How many places are free.
     pub fn free_places(self) -> Result<usize, Refusal>
         ensures { Looks count_alone (free_places_in self.core self.acks) (rules.free_places (view self)) result }
     {
-        let c = self.core;
-        looks::free_places(c, &self.acks)
+        looks::free_places(self.core, &self.acks)
     }
 
     // The kept numbers.
     pub fn kept_numbers(self) -> Result<Numbers, Refusal>
         ensures { Looks row (kept_numbers_in self.core self.acks) (rules.kept_numbers (view self)) result }
     {
-        let c = self.core;
-        looks::kept_numbers(c, &self.acks)
+        looks::kept_numbers(self.core, &self.acks)
     }
 
     // The missing numbers of unit k.
     pub fn missing_of(self, k: u8) -> Result<Numbers, Refusal>
         ensures { Looks row (missing_in self.core self.acks k) (rules.missing_of (view self) k) result }
     {
-        let c = self.core;
-        looks::missing_of(c, &self.acks, k)
+        looks::missing_of(self.core, &self.acks, k)
     }
 
     // How many of unit k's messages wait.
     pub fn waiting_of(self, k: u8) -> Result<usize, Refusal>
         ensures { Looks count_alone (waiting_in self.core self.acks k) (rules.waiting_of (view self) k) result }
     {
-        let c = self.core;
-        looks::waiting_of(c, &self.acks, k)
+        looks::waiting_of(self.core, &self.acks, k)
     }
 
     // Whether the unit is sound.
     pub fn is_sound(self) -> bool
         ensures { Tests self result }
     {
-        let c = self.core;
-        state::sound(c, &self.acks)
+        state::sound(self.core, &self.acks)
     }
 }

@@ -19,13 +19,12 @@ use Rattle.framewrite.specs.Writing.{data_written, Wrote}
 use Rattle.state.proofs.RoomLaws.{sound-ranges}
 use Rattle.store.specs.Arrays.{with_ack, with_text, with_frame, without_frames}
 use Rattle.store.specs.Store.{settled_of}
-use Rattle.std.specs.Prelude.{Some, None, Ok, Err}
+use Rattle.std.specs.Prelude.{Option, Ok, Err}
 use Rattle.answers.specs.declared.Refusal.{Refusal}
 use Rattle.answers.specs.declared.Refusal.TheVariants.{Unsound}
 use Rattle.answers.specs.Answers.{Answered, judged}
 use Rattle.answers.proofs.AnswersLaws.{err_not_ok, same_ok, done_passes}
 use Rattle.steps.specs.declared.Resend.{Resend}
-use Rattle.steps.specs.declared.Stored as declared
 use Rattle.steps.specs.declared.Arrival.{Arrival}
 use Rattle.steps.specs.declared.Arrival.TheVariants.{Asked, Accepted}
 use Rattle.steps.specs.declared.Sending.{Sending}
@@ -33,7 +32,9 @@ use Rattle.steps.specs.Arrival.{arrival_of}
 use Rattle.steps.specs.Checks.{send_checks}
 use Rattle.steps.specs.Sending.{sending_own, sending_checked, sending_of}
 use Rattle.steps.specs.Means.{own_message, own_frame}
+use Rattle.handing.specs.Handing.{Gives}
 use Rattle.unit.specs.declared.Unit.{Unit}
+use Rattle.unit.specs.declared.Sent.{Sent}
 use Rattle.unit.specs.Exact.{with_core, stored_with, sent_unit, sent_by, sent_of, arrived_by, arrived_of}
 
 -- what is written into the arrays of u, and settled; `slots` are the kept frames then
@@ -43,7 +44,7 @@ pub record Stored (u : Unit) (c : Core) (place : ℕ) (ack text slots : List ℕ
   pub frames : next.frames ≡ slots
   pub core : next.core ≡ settled_of c next.acks
 
-stored_is : (u : Unit) (c : Core) (place : ℕ) (ack text frames : List ℕ) (next : Unit) → Stored u c place ack text frames next → next ≡ stored_with u c place ack text frames
+pub stored_is : (u : Unit) (c : Core) (place : ℕ) (ack text frames : List ℕ) (next : Unit) → Stored u c place ack text frames next → next ≡ stored_with u c place ack text frames
 stored_is u c place ack text frames next w i =
     record {
       core = (w.core ∙ ap (settled_of c) w.acks) i;
@@ -60,15 +61,19 @@ module _ (u : Unit) (l : List ℕ) (c : Core) (r : Answered Arrival) (e : (c, r)
   unfolding arrived_of arrived_by
   arrived-refused d h = rw (← e, h)
 
-  pub arrived-asked : (a : Arrival) → r ≡ Ok a → (x : Resend) → a ≡ Asked x → (with_core u c, Ok (Some x)) ≡ arrived_of u l
+  -- done on the unit with the next numbers
+  pub arrived-done : (a : Arrival) → r ≡ Ok a → (text : List ℕ) → text ≡ payload_of (decode l) → (next : Unit) (x : Option Resend)
+      → (next, Ok x) ≡ arrived_by (with_core u c) text c (Ok a) → (next, Ok x) ≡ arrived_of u l
   unfolding arrived_of arrived_by
-  arrived-asked a h x k = rw (← e, h, k)
-
-  pub arrived-accepted : (a : Arrival) → r ≡ Ok a → (s : declared.Stored) → a ≡ Accepted s → (text : List ℕ) → text ≡ payload_of (decode l)
-      → (next : Unit) → Stored u c s.place s.ack text (without_frames u.frames s.gone) next
-      → (next, Ok None) ≡ arrived_of u l
-  unfolding arrived_of arrived_by
-  arrived-accepted a h s k text t next w = rw (← e, h, k, ← t, stored_is u c s.place s.ack text (without_frames u.frames s.gone) next w)
+  arrived-done a h text t next x w =
+      w ∙ same a
+      ∙ ap (λ (d : List ℕ). arrived_by u d c (Ok a)) t
+      ∙ ap (arrived_by u (payload_of (decode l)) c) (sym h)
+      ∙ ap (λ (z : Core × Answered Arrival). arrived_by u (payload_of (decode l)) z.0 z.1) e
+    where
+      same : (a : Arrival) → arrived_by (with_core u c) text c (Ok a) ≡ arrived_by u text c (Ok a)
+      same (Asked r) = refl
+      same (Accepted s) = refl
 
 -- ---- send
 
@@ -137,10 +142,16 @@ module _ (u : Unit) (d out : List ℕ) (r : Answered Sending) (e : r ≡ sending
   unfolding sent_of sent_by
   sent-refused x h = rw (← e, h)
 
-  pub sent-done : (s : Sending) → r ≡ Ok s → (frame after : List ℕ) → frame ≡ own_frame u.core s.buf d → after ≡ written out (own_frame u.core s.buf d)
-      → (len : ℕ) → len ≡ length (own_frame u.core s.buf d)
-      → (next : Unit) → Stored u s.core s.place u.core.req d (without_frames (with_frame u.frames s.slot frame) s.gone) next
-      → record { result = (next, Ok (record { seq = u.core.seq; len = len })); output = after } ≡ sent_of u d out
-  unfolding sent_of sent_by sent_unit
-  sent-done s h frame after f x len m next w =
-      rw (← e, h, m, x, ← f, stored_is u s.core s.place u.core.req d (without_frames (with_frame u.frames s.slot frame) s.gone) next w)
+  pub sent-done : (s : Sending) → r ≡ Ok s → (x : Unit × Answered Sent) (after : List ℕ) → Gives (sent_by u d out (Ok s)) x after
+      → record { result = x; output = after } ≡ sent_of u d out
+  unfolding sent_of
+  sent-done s h x after g = (λ i. record { result = g.result i; output = g.output i }) ∙ ap (sent_by u d out) (sym h ∙ e)
+
+-- what is written by the send s, the frame first
+pub sent-written : (u : Unit) (d out : List ℕ) (s : Sending) (frame after : List ℕ) → frame ≡ own_frame u.core s.buf d → after ≡ written out (own_frame u.core s.buf d)
+    → (len : ℕ) → len ≡ length (own_frame u.core s.buf d)
+    → (next : Unit) → Stored u s.core s.place u.core.req d (without_frames (with_frame u.frames s.slot frame) s.gone) next
+    → Gives (sent_by u d out (Ok s)) (next, Ok (record { seq = u.core.seq; len = len })) after
+unfolding sent_by sent_unit
+sent-written u d out s frame after f x len m next w =
+    rw (m, x, ← f, stored_is u s.core s.place u.core.req d (without_frames (with_frame u.frames s.slot frame) s.gone) next w) (record { result = refl; output = refl })

@@ -3,6 +3,10 @@
 
 ghost use Rattle.rules.specs.Looks as rules;
 ghost use Rattle.handing.specs.Looks.{count_alone, row, to_take_in, free_places_in, kept_numbers_in, missing_in, waiting_in};
+ghost use Rattle.std.specs.Prelude.{◌≡◌, ◌≤◌, length, Ok};
+ghost use Rattle.handing.specs.Handing.{Gives};
+ghost use Rattle.steps.specs.Sending.{sending_of};
+ghost use Rattle.unit.specs.Exact.{sent_by, arrived_by};
 ghost use Rattle.unit.specs.View.{view};
 ghost use Rattle.unit.specs.CallContracts.{Opens, Sends, Arrives, Asks, Copies, Takes, Looks, Tests};
 
@@ -16,8 +20,8 @@ pub use handing::looks::Numbers;
 use state;
 use state::{Core, Opening};
 use steps;
-use steps::Arrival;
 pub use steps::Resend;
+use steps::{Arrival, Sending};
 use store;
 use store::arrays;
 
@@ -76,23 +80,28 @@ impl Unit {
     pub fn send(mut self, text: &[u8], out: &mut [u8]) -> (Unit, Result<Sent, Refusal>)
         ensures { Sends self text.now out.old result out.new }
     {
+        let given = match steps::send(self.core, &self.acks, text.len(), out.len()) {
+            Err(refusal) => Err(refusal),
+            Ok(s) => Ok(self.sent(s, text, out)),
+        };
+        (self, given)
+    }
+
+    // The frame is written and kept, and its message stored and settled.
+    fn sent(&mut self, s: Sending, text: &[u8], out: &mut [u8]) -> Sent
+        requires { (sending_of self.old.core self.old.acks (length text.now) (length out.old) ≡ Ok s) × (self.old.core.n ≤ length self.old.core.req) }
+        ensures { Gives (sent_by self.old text.now out.old (Ok s)) (self.new, Ok result) out.new }
+    {
         let c = self.core;
-        match steps::send(c, &self.acks, text.len(), out.len()) {
-            Err(refusal) => (self, Err(refusal)),
-            Ok(s) => {
-                let req = c.req;
-                let n = c.n as usize;
-                let len = framewrite::write_data(
-                    out, c.cid, c.me, c.seq, &req, n, s.buf, text,
-                ).unwrap();
-                arrays::put_frame(&mut self.frames, s.slot, &out[..len]);
-                arrays::drop_frames(&mut self.frames, s.gone);
-                arrays::put_ack(&mut self.acks, s.place, req);
-                arrays::put_text(&mut self.bytes, s.place, text);
-                self.core = store::settled(s.core, &self.acks);
-                (self, Ok(Sent { seq: c.seq, len }))
-            }
-        }
+        let req = c.req;
+        let n = c.n as usize;
+        let len = framewrite::write_data(out, c.cid, c.me, c.seq, &req, n, s.buf, text).unwrap();
+        arrays::put_frame(&mut self.frames, s.slot, &out[..len]);
+        arrays::drop_frames(&mut self.frames, s.gone);
+        arrays::put_ack(&mut self.acks, s.place, req);
+        arrays::put_text(&mut self.bytes, s.place, text);
+        self.core = store::settled(s.core, &self.acks);
+        Sent { seq: c.seq, len }
     }
 
     // A frame of either kind arrives; for a request, the numbers to resend come back. Refusals, data: 1, 3, 4, 5, 6, 7, 8,
@@ -102,18 +111,25 @@ impl Unit {
     {
         let (next, arrived) = steps::arrive(self.core, &self.acks, s);
         self.core = next;
-        let arrival = match arrived {
-            Err(refusal) => return (self, Err(refusal)),
-            Ok(arrival) => arrival,
+        let given = match arrived {
+            Err(refused) => Err(refused),
+            Ok(arrival) => Ok(self.after(arrival, frame::payload(s))),
         };
+        (self, given)
+    }
+
+    // What is accepted is written into the arrays, and settled; for a request, the numbers to resend come back.
+    fn after(&mut self, arrival: Arrival, text: &[u8]) -> Option<Resend>
+        ensures { (self.new, Ok result) ≡ arrived_by self.old text.now self.old.core (Ok arrival) }
+    {
         match arrival {
-            Arrival::Asked(resend) => (self, Ok(Some(resend))),
+            Arrival::Asked(resend) => Some(resend),
             Arrival::Accepted(a) => {
                 arrays::put_ack(&mut self.acks, a.place, a.ack);
-                arrays::put_text(&mut self.bytes, a.place, frame::payload(s));
+                arrays::put_text(&mut self.bytes, a.place, text);
                 arrays::drop_frames(&mut self.frames, a.gone);
-                self.core = store::settled(next, &self.acks);
-                (self, Ok(None))
+                self.core = store::settled(self.core, &self.acks);
+                None
             }
         }
     }

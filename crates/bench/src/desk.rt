@@ -25,6 +25,7 @@ pub struct Desk {
     pub count: usize,
 }
 
+// Kept: beside drive's function of this name; each is one call by its own program's definition.
 // Unit `me` of a group: CID 1, first numbers 1; closed where there is no such unit.
 #[tactic(auto, unfolding(crate::specs::Desk::started_unit))]
 fn opened_unit(me: u8, n: u8, w: u8) -> Unit
@@ -60,6 +61,7 @@ impl Desk {
         };
         Self {
             n,
+            // Kept: the three as they are; a `for` would first need three units of its own.
             units: [a, b, c],
             frames: [none; Self::FRAMES],
             count: 0,

@@ -5,6 +5,7 @@ use script::print;
 use unit::Unit;
 
 // Nothing was there to be called, a call's answer number, or a message taken: its word is the first len bytes.
+// Kept: the number as such, since it is what is printed, and word with len, since no heap is a rule of the project.
 #[derive(Clone, Copy)]
 pub enum Reply {
     Unknown,

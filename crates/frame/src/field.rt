@@ -7,6 +7,7 @@ use crate::number::number_at;
 use crate::table::Tag;
 
 // A field: its content stands from start up to end.
+// Kept: two places and no range, since the reader goes on from `end`, and a range is not Copy.
 #[derive(Clone, Copy)]
 pub struct Field {
     pub start: usize,

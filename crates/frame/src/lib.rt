@@ -28,7 +28,8 @@ pub struct Head {
     pub ack: [u32; 8],
 }
 
-// A message. Its data are `len` bytes of the frame from `start` on.
+// A message. Its data are `len` bytes of the frame from `start` on. Kept: places and no slice, since C is handed the two
+// numbers (the C interface), and `payload` gives the slice.
 #[derive(Clone, Copy)]
 pub struct Data {
     pub head: Head,

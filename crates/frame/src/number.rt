@@ -3,8 +3,8 @@ ghost use Rattle.std.specs.Prelude.{◌≡◌, ◌+◌, ◌*◌, ◌≤◌, ◌<
 ghost use Rattle.rules.specs.Bytes.{number, all_numbers};
 ghost use Rattle.frame.specs.Acks.{eight};
 
-// Kept: s and at as two parameters, here and in the other functions on slices: `Reader` has both for those that go on from
-// field to field. Kept: w as a number up to 4, since it is the table's width.
+// Kept: s and at as two parameters, here and in the other functions on slices; through `Reader` each would first make one for
+// a single place. Kept: w as a number up to 4, and so a loop over bytes, since it is the table's width.
 
 // The number of w bytes that stands at a place.
 pub fn number_at(s: &[u8], at: usize, w: usize) -> u32

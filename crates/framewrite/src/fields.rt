@@ -9,6 +9,7 @@ use crate::field::{put_field, put_text};
 use frame::table::{Kind, TAGS, Tag};
 
 // The numbers of a message that stand alone in their fields; what the kind lacks is not read.
+// Kept: one struct for both kinds, since the fields are written by tag, and a tag that the kind lacks never comes up.
 #[derive(Clone, Copy)]
 pub struct Singles {
     pub kind: Kind,

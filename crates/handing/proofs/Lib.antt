@@ -5,4 +5,5 @@ pub mod CopyingMeans
 pub mod Determined
 pub mod LooksMean
 pub mod PartLaws
+pub mod TakingLaws
 pub mod TakingMeans

@@ -5,6 +5,7 @@ ghost use Rattle.tables.specs.Rows.{part};
 
 use tables;
 
+// Kept: byte by byte, since past the end of the list 0 is written (its contract).
 // Copies the count bytes of the list from index start on; past the end of the list they are 0.
 pub fn put_part(out: &mut [u8], list: &[u8], start: usize, count: usize)
     requires { (count ≤ length out.old) × (start + count ≤ 18446744073709551615) }

@@ -16,7 +16,8 @@ use preack::Said;
 use tables;
 
 // PAL, and the taken places: the confirmed ones, then the ordered, then the waiting.
-// Kept: an array with counts beside it, since a rule of the project is fixed memory, and a unit's arrays are flat, to be lent.
+// Kept: an array with counts beside it, since `taken`, `with_last` and `settled` answer for counts past 128 too
+// (docs/CONTRACTS.md), and no heap is a rule of the project.
 #[derive(Clone, Copy)]
 pub struct Order {
     pub pal: [u32; 64],

@@ -71,8 +71,7 @@ fn run(units: &mut [Unit; Unit::MOST_UNITS], input: &[u8], records: usize, out: 
     for i in 0..records {
         let from = CALL * i;
         let k = (tables::get_or(input, from + 1, 0) % 8) as usize;
-        let next = answered(units[k], &input[from..from + CALL], out, REPLY * i);
-        units[k] = next;
+        units[k] = answered(units[k], &input[from..from + CALL], out, REPLY * i);
     }
 }
 

@@ -8,7 +8,8 @@ use crate::line;
 use crate::line::Line;
 
 // The first 80 bytes of the line, and whether there were more.
-// Kept: `push`, `size` and `read` promise for every `len`, one past 80 too, and an ArrayVec of 80 bytes excludes those.
+// Kept: `push`, `size` and `read` promise for every `len`, one past 80 too, and an ArrayVec of 80 bytes excludes those; and
+// for every `long` beside it (`begun_of`, docs/CONTRACTS.md).
 #[derive(Clone, Copy)]
 pub struct Collector {
     pub bytes: [u8; line::LONGEST],

@@ -17,7 +17,8 @@ fn extended(v: u32, d: u32) -> u32
     v.saturating_mul(10).saturating_add(d)
 }
 
-// What an item says as a number. One that passes 32 bits counts as 4,294,967,295.
+// What an item says as a number. One that passes 32 bits counts as 4,294,967,295. Kept: read by hand, since no reading of the
+// library stops there or refuses a leading 0.
 pub fn number(s: &[u8]) -> Option<u32>
     ensures { result ≡ value_in s.now }
 {

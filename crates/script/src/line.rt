@@ -50,6 +50,7 @@ fn after_letter(c: u8, s: &[u8]) -> Option<Line>
     }
 }
 
+// Kept: c is a letter, here and below, since that is what is read; the commands are `Line`.
 fn of_two(c: u8, u: u32) -> Option<Line>
     ensures { result ≡ shown (of_two c u) }
 {

@@ -29,7 +29,8 @@ pub const MOST_DATA: usize = 48;
 
 // The kept frame of number s is in slot s - minAL of the own index, and `kept` holds its length. `seqs` and `lens`
 // hold number and data length of the message at each place.
-// Kept: arrays side by side, indexed by place, since a rule of the project is fixed memory, and flat arrays can be lent.
+// Kept: arrays side by side, indexed by place, since the functions that are lent them answer for slices of any length
+// (`lists::settled`, docs/CONTRACTS.md), and no heap is a rule of the project.
 #[derive(Clone, Copy)]
 pub struct Core {
     pub me: u8,

@@ -8,7 +8,7 @@ use crate::{Core, LEAST_UNITS, LEAST_WINDOW, MOST_DATA, MOST_UNITS, MOST_WINDOW,
 use lists;
 use tables;
 
-// Kept: i, n and W as numbers here and in the programs, since Core and Opening have them as such.
+// Kept: i, n and W as numbers here and in the programs, since the README's `Opening { me, n, w, .. }` has them as such.
 // i, n and W are in range.
 #[tactic(auto, unfolding(rules::specs::Sound::ranges_fit, rules::specs::Maps::between))]
 pub fn ranges_fit(me: u8, n: u8, w: u8) -> bool

@@ -112,8 +112,12 @@ impl Heard {
             len: f.len as u8,
         };
         let s = store::stored(self.at.core, m);
-        let gone = s.gone;
-        (s.core, Ok(Arrival::Accepted(Stored { place, gone, ack })))
+        let stored = Stored {
+            place,
+            gone: s.gone,
+            ack,
+        };
+        (s.core, Ok(Arrival::Accepted(stored)))
     }
 
     #[tactic(auto, unfolding(crate::specs::Arrival::unit_arrival))]

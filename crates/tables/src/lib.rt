@@ -71,7 +71,7 @@ pub fn row(t: &[u32], k: u8) -> &[u32]
     tail(t, i)
 }
 
-// The eight numbers, with v as the j-th.
+// The eight numbers, with v as the j-th. Kept: an `if`, since past the eighth all stay as they were (its contract).
 pub fn with(a: [u32; 8], j: u8, v: u32) -> [u32; 8]
     ensures { result ≡ set a (j - 1) v }
 {
@@ -159,7 +159,8 @@ pub fn column_of(t: &[u32], j: u8) -> [u32; 8]
     a
 }
 
-// Each of the first n numbers of a, raised to at least that of b.
+// Each of the first n numbers of a, raised to at least that of b. Kept: indexed, since three arrays go side by side, and the
+// entries from n on stay.
 #[tactic(auto, unfolding(crate::specs::Rows::raised))]
 pub fn raised_to(a: [u32; 8], b: [u32; 8], n: u8) -> [u32; 8]
     ensures { result ≡ raised n a b }

@@ -19,12 +19,13 @@ use Rattle.framewrite.specs.Writing.{data_written, Wrote}
 use Rattle.state.proofs.RoomLaws.{sound-ranges}
 use Rattle.store.specs.Arrays.{with_ack, with_text, with_frame, without_frames}
 use Rattle.store.specs.Store.{settled_of}
-use Rattle.std.specs.Prelude.{Option, Ok, Err}
+use Rattle.std.specs.Prelude.{Option, Some, None, Ok, Err}
 use Rattle.answers.specs.declared.Refusal.{Refusal}
 use Rattle.answers.specs.declared.Refusal.TheVariants.{Unsound}
 use Rattle.answers.specs.Answers.{Answered, judged}
 use Rattle.answers.proofs.AnswersLaws.{err_not_ok, same_ok, done_passes}
 use Rattle.steps.specs.declared.Resend.{Resend}
+use Rattle.steps.specs.declared.Stored as declared
 use Rattle.steps.specs.declared.Arrival.{Arrival}
 use Rattle.steps.specs.declared.Arrival.TheVariants.{Asked, Accepted}
 use Rattle.steps.specs.declared.Sending.{Sending}
@@ -74,6 +75,18 @@ module _ (u : Unit) (l : List ℕ) (c : Core) (r : Answered Arrival) (e : (c, r)
       same : (a : Arrival) → arrived_by (with_core u c) text c (Ok a) ≡ arrived_by u text c (Ok a)
       same (Asked r) = refl
       same (Accepted s) = refl
+
+-- the two ways an arrival is done, piece by piece
+module _ (u : Unit) (l : List ℕ) (c : Core) (r : Answered Arrival) (e : (c, r) ≡ arrival_of u.core u.acks (decode l)) where
+  pub arrived-passing : (x : Resend) → r ≡ Ok (Asked x) → (with_core u c, Ok (Some x)) ≡ arrived_of u l
+  unfolding arrived_of arrived_by
+  arrived-passing x h = rw (← e, h)
+
+  pub arrived-storing : (s : declared.Stored) → r ≡ Ok (Accepted s) → (text : List ℕ) → text ≡ payload_of (decode l)
+      → (next : Unit) → Stored u c s.place s.ack text (without_frames u.frames s.gone) next
+      → (next, Ok None) ≡ arrived_of u l
+  unfolding arrived_of arrived_by
+  arrived-storing s h text t next w = rw (← e, h, ← t, stored_is u c s.place s.ack text (without_frames u.frames s.gone) next w)
 
 -- ---- send
 
@@ -142,10 +155,10 @@ module _ (u : Unit) (d out : List ℕ) (r : Answered Sending) (e : r ≡ sending
   unfolding sent_of sent_by
   sent-refused x h = rw (← e, h)
 
-  pub sent-done : (s : Sending) → r ≡ Ok s → (x : Unit × Answered Sent) (after : List ℕ) → Gives (sent_by u d out (Ok s)) x after
+  pub sent-given : (s : Sending) → r ≡ Ok s → (x : Unit × Answered Sent) (after : List ℕ) → Gives (sent_by u d out (Ok s)) x after
       → record { result = x; output = after } ≡ sent_of u d out
   unfolding sent_of
-  sent-done s h x after g = (λ i. record { result = g.result i; output = g.output i }) ∙ ap (sent_by u d out) (sym h ∙ e)
+  sent-given s h x after g = (λ i. record { result = g.result i; output = g.output i }) ∙ ap (sent_by u d out) (sym h ∙ e)
 
 -- what is written by the send s, the frame first
 pub sent-written : (u : Unit) (d out : List ℕ) (s : Sending) (frame after : List ℕ) → frame ≡ own_frame u.core s.buf d → after ≡ written out (own_frame u.core s.buf d)
@@ -155,3 +168,11 @@ pub sent-written : (u : Unit) (d out : List ℕ) (s : Sending) (frame after : Li
 unfolding sent_by sent_unit
 sent-written u d out s frame after f x len m next w =
     rw (m, x, ← f, stored_is u s.core s.place u.core.req d (without_frames (with_frame u.frames s.slot frame) s.gone) next w) (record { result = refl; output = refl })
+
+pub sent-done : (u : Unit) (d out : List ℕ) (r : Answered Sending) → r ≡ sending_of u.core u.acks (length d) (length out) → (s : Sending) → r ≡ Ok s
+    → (frame after : List ℕ) → frame ≡ own_frame u.core s.buf d → after ≡ written out (own_frame u.core s.buf d)
+    → (len : ℕ) → len ≡ length (own_frame u.core s.buf d)
+    → (next : Unit) → Stored u s.core s.place u.core.req d (without_frames (with_frame u.frames s.slot frame) s.gone) next
+    → record { result = (next, Ok (record { seq = u.core.seq; len = len })); output = after } ≡ sent_of u d out
+sent-done u d out r e s h frame after f x len m next w =
+    sent-given u d out r e s h _ after (sent-written u d out s frame after f x len m next w)

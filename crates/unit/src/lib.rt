@@ -26,7 +26,8 @@ use store;
 use store::arrays;
 
 // A unit of a group: its numbers, ACK and data of its places, and the frames that it keeps.
-// Kept: flat arrays beside the numbers, since a rule of the project is fixed memory, and flat arrays can be lent.
+// Kept: flat arrays beside the numbers, since `handing::copying` and `store::arrays` answer for them as such
+// (docs/CONTRACTS.md), and no heap is a rule of the project.
 #[derive(Clone, Copy)]
 pub struct Unit {
     pub core: Core,

@@ -15,7 +15,7 @@ loop-i-preserved c =
     let long : 208 * l.i + 208 - 208 * l.i ≡ 208 = omega arith in
     let more =
     one-run a.units.now a.input.now a.out.now l.i l.units l.out l.invariant.1
-    (c.get_or.result % 8) (ap (λ x. x % 8) c.get_or.ensures) (omega arith) _ _ _ (rw long at c.answered-next.ensures) in
+    (c.get_or.result % 8) (ap (λ x. x % 8) c.get_or.ensures) (omega arith) _ _ _ (rw long at c.answered.ensures) in
     ((omega arith, (search rules, search rules)), more)
 
 pub returns : goal.returns

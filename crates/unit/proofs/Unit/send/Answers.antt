@@ -4,7 +4,7 @@ use native.Mathlib.Omega.{arith}
 use lib.ListN.{length}
 use Rattle.unit.proofs.Means.{sends-data}
 use Rattle.unit.proofs.Shape.{shaped}
-use Rattle.unit.proofs.Writing.{Sendable, sendable, sent-refused, sent-done}
+use Rattle.unit.proofs.Writing.{Sendable, sendable, sent-refused, sent-given}
 use Rattle.unit.proofs.Unit.send.Goals as goal
 
 pub returns-in-Err : goal.returns-in-Err
@@ -22,4 +22,4 @@ sent-requires c =
 pub returns-in-Ok : goal.returns-in-Ok
 returns-in-Ok c =
     let u = c.args.self in
-    sends-data u (shaped u _ c.well_formed.0.1.1) _ _ _ _ (sent-done u _ _ _ c.send.ensures _ c.in-Ok.is _ _ c.sent.ensures)
+    sends-data u (shaped u _ c.well_formed.0.1.1) _ _ _ _ (sent-given u _ _ _ c.send.ensures _ c.in-Ok.is _ _ c.sent.ensures)

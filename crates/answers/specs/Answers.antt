@@ -1,5 +1,5 @@
 -- The number of each refusal (01, "Answer numbers"), and what a call gives by its checks.
-use Rattle.std.specs.Prelude.{List, [], ◌∷◌, ℕ, ◌-◌, get_or, Result, Ok, Err}
+use Rattle.std.specs.Prelude.{codes, List, [], ◌∷◌, ℕ, ◌-◌, get_or, Result, Ok, Err}
 use Rattle.rules.specs.Calls.{Check, decide}
 use Rattle.answers.specs.declared.Refusal.{Refusal}
 use Rattle.answers.specs.declared.Refusal.TheVariants.{Unsound, CannotOpen, NotAFrame, OtherGroup, NoSuchUnit, OwnFrame, Impossible, AcceptedBefore, EarlierMissing, NamesMissing, AckFell, NoPlace, TooLong, NoNumberLeft, WindowShut, OutputTooShort, ForAnother, Nothing}
@@ -23,6 +23,27 @@ number_of WindowShut = 15
 number_of OutputTooShort = 16
 number_of ForAnother = 17
 number_of Nothing = 18
+
+-- what a refusal says when it is printed
+abbrev pub text_of : Refusal → List ℕ
+text_of Unsound = codes "the unit is closed or not sound"
+text_of CannotOpen = codes "opening outside the ranges"
+text_of NotAFrame = codes "not a frame"
+text_of OtherGroup = codes "of another group"
+text_of NoSuchUnit = codes "no such unit, or a wrong count of ACK"
+text_of OwnFrame = codes "the unit's own frame"
+text_of Impossible = codes "a number that cannot be"
+text_of AcceptedBefore = codes "accepted before"
+text_of EarlierMissing = codes "an earlier number of its sender is missing"
+text_of NamesMissing = codes "it names a message that is missing here"
+text_of AckFell = codes "an ACK below one heard before"
+text_of NoPlace = codes "the sender has no free place"
+text_of TooLong = codes "data over 48 bytes"
+text_of NoNumberLeft = codes "no number is left to send"
+text_of WindowShut = codes "window shut"
+text_of OutputTooShort = codes "lent output too short"
+text_of ForAnother = codes "request for another unit"
+text_of Nothing = codes "nothing missing, to resend, kept or to take"
 
 -- the refusals in the order of their numbers
 abbrev pub refusals : List Refusal

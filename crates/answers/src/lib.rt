@@ -1,8 +1,8 @@
 // Why a call refuses, as one type, and the number of each refusal (01, "Answer numbers").
 #![tactic(auto)]
 
-ghost use Rattle.std.specs.Prelude.{◌≡◌};
-ghost use Rattle.answers.specs.Answers.{number_of, answer_of};
+ghost use Rattle.std.specs.Prelude.{◌≡◌, Some};
+ghost use Rattle.answers.specs.Answers.{number_of, text_of, answer_of};
 
 use std::error::Error;
 use std::fmt;
@@ -39,6 +39,8 @@ impl From<Refusal> for u32 {
 }
 
 impl fmt::Display for Refusal {
+    ghost output = { λ r. Some (text_of r) };
+
     fn fmt<W: fmt::Write>(&self, f: &mut fmt::Formatter<W>) -> fmt::Result {
         f.write_str(match self {
             Refusal::Unsound => "the unit is closed or not sound",

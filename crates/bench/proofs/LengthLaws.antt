@@ -52,6 +52,7 @@ pub taken-len : (u : Unit) (out : List ℕ) (t : Taken) → (taken_of u out).res
 unfolding taken_of taking_of
 taken-len u out t =
     let c : Core = u.core in
-    decide-cases (λ (g : Given (Core × Answered Taken)). g.result.1 ≡ Ok t → t.len ≤ length out) (not_taken c out) (taken_with c u.bytes out) (taking_checks c u.acks out)
+    decide-cases (λ (g : Given (Core × Answered Taken)). g.result.1 ≡ Ok t → t.len ≤ length out)
+    (not_taken c out) (taken_with c u.bytes out) (taking_checks c u.acks out)
     (λ a r e. absurd (err_not_ok e))
     (λ passed e. omega (arith, ap (λ (x : Taken). x.len) (same_ok e), ltb-false _ _ passed.1.1.0))

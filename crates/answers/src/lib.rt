@@ -40,6 +40,8 @@ impl From<Refusal> for u32 {
 
 impl fmt::Display for Refusal {
     ghost output = { λ r. Some (text_of r) };
+    // The options of a hole, such as a width, change nothing.
+    ghost styled_output = { λ r spec. Some (text_of r) };
 
     fn fmt<W: fmt::Write>(&self, f: &mut fmt::Formatter<W>) -> fmt::Result {
         f.write_str(match self {

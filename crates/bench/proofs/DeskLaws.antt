@@ -5,12 +5,14 @@ use mathlib.Core.Path.{◌≡◌, refl, sym, ap, ◌∙◌, fun_ext}
 use Prim.Native.Nat.{ℕ, zero, suc, ◌+◌, ◌-◌, ◌<◌, ◌≤◌}
 use native.Mathlib.Omega.{arith}
 use native.Mathlib.Numerals.{add-one}
-use lib.ListN.{length, get_or, take, set, length-append, get_or-append}
-use lib.Seq.{get_or-set_same, get_or-set_other, get_or_at, set-get_or}
+use lib.ListN.{length, get_or, take, drop, set, length-append, length-drop, get_or-append}
+use lib.Seq.{ext_get_or, get_or-take, get_or-drop, get_or-set_same, get_or-set_other, get_or_at, set-get_or, length-take-le}
 use Rattle.rules.specs.Maps.{upd}
 use Rattle.rules.specs.State.{closed}
-use Rattle.rules.proofs.MapsLaws.{Lt?, lt, ge, lt?, Eq?, same, other, eq?, is-between}
+use Rattle.rules.proofs.MapsLaws.{Lt?, lt, ge, lt?, Eq?, same, other, eq?, is-between, get_or-listed}
+use Rattle.tables.specs.Rows.{part}
 use Rattle.tables.proofs.GridLaws.{Unit?, inside, outside, unit?}
+use Rattle.tables.proofs.ListedLaws.{length_part}
 use Rattle.std.specs.Prelude.{Ok, Err}
 use Rattle.answers.specs.Answers.{Answered}
 use Rattle.unit.specs.declared.Unit.{Unit}
@@ -46,6 +48,14 @@ pub with-fits : (d : Desk) (u : ℕ) (x : Unit) → Fits d → Fits (with_unit d
 with-fits d u x f = record { units = f.units; frames = f.frames; lengths = f.lengths }
 
 -- ---- frames
+
+-- a part that lies within the list
+pub part-take : (l : List ℕ) (a m : ℕ) → a + m ≤ length l → part l a m ≡ take m (drop a l)
+part-take l a m h =
+    ext_get_or 0 (part l a m) (take m (drop a l)) (length_part l a m ∙ sym (length-take-le m (drop a l) (omega (arith, length-drop a l))))
+    (λ i x.
+    let h : i < m = omega (arith, length_part l a m) in
+    get_or-listed a m (λ j. get_or l j 0) i h ∙ sym (get_or-take m (drop a l) i 0 h ∙ get_or-drop a l i 0))
 
 module _ (frames : List Frame) where
   pub length-frames : (m : ℕ) → length (frames_in frames m) ≡ m

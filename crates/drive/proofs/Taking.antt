@@ -11,8 +11,7 @@ use Rattle.unit.specs.declared.Unit.{Unit}
 use Rattle.handing.specs.declared.Taken.{Taken}
 use Rattle.unit.specs.CallContracts.{Takes}
 use Rattle.unit.specs.Exact.{taken_of}
-use Rattle.drive.specs.declared.Summed.{Summed}
-use Rattle.drive.specs.Run.{with_message, all_taken, all_after}
+use Rattle.drive.specs.Run.{Summed, with_message, all_taken, all_after}
 
 -- a take as its contract has it
 pub take-given : (u : Unit) (out : List ℕ) (r : Unit × Answered Taken) (out' : List ℕ) → Takes u out r out'

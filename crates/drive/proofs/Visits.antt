@@ -7,8 +7,7 @@ use lib.Dec.{eqb}
 use lib.ListN.{length, get_or, set, replicate}
 use Rattle.handing.specs.Handing.{Gives}
 use Rattle.unit.specs.declared.Unit.{Unit}
-use Rattle.drive.specs.declared.Summed.{Summed}
-use Rattle.drive.specs.Run.{visit_of, unit_of, opened_units, unit_at, Group, visited_at, run_of}
+use Rattle.drive.specs.Run.{Summed, visit_of, unit_of, opened_units, unit_at, Group, visited_at, run_of}
 
 -- within a list it does not matter what is read past its end
 read-within : (l : List Unit) (k : ℕ) (d e : Unit) → k < length l → get_or l k d ≡ get_or l k e

@@ -5,7 +5,6 @@ use Rattle.handing.specs.Handing.{Given}
 use Rattle.unit.specs.declared.Unit.{Unit}
 use Rattle.handing.specs.declared.Taken.{Taken}
 use Rattle.unit.specs.Exact.{opened_of, sent_of, arrived_of, taken_of}
-use Rattle.drive.specs.declared.Summed.{Summed}
 
 -- ---- sums, modulo 2^32
 
@@ -20,6 +19,14 @@ abbrev pub with_message : ℕ → ℕ → ℕ → ℕ → List ℕ → ℕ
 with_message s src seq len out = with_bytes (mixed (mixed (mixed s src) seq) len) out
 
 -- ---- taking
+
+-- the sum so far, and the unit then
+pub record Summed : Type 0 where
+  pub sum : ℕ
+  pub unit : Unit
+
+abbrev pub summed : ℕ → Unit → Summed
+summed s u = record { sum = s; unit = u }
 
 -- u has taken t, its data in out: the message goes into the sum, and so do those after it, at most so many
 unfoldable pub all_taken : ℕ → Unit → Answered Taken → List ℕ → ℕ → Summed

@@ -4,20 +4,13 @@
 
 ghost use Rattle.std.specs.Prelude.{◌≡◌, ◌*◌, ◌<◌, ◌≤◌, length};
 ghost use Rattle.handing.specs.Handing.{Gives};
-ghost use Rattle.drive.specs.Run.{mixed, with_bytes, with_message, shown, visit_of, unit_of, opened_units, unit_at, run_of};
+ghost use Rattle.drive.specs.Run.{mixed, with_bytes, with_message, summed, shown, visit_of, unit_of, opened_units, unit_at, run_of};
 
 use script::number;
 use state::Opening;
 use std::io;
 use std::io::Read;
 use unit::Unit;
-
-// The sum so far, and the unit then.
-#[derive(Clone, Copy)]
-struct Summed {
-    sum: u32,
-    unit: Unit,
-}
 
 // The sum, continued with a number.
 fn mixed(sum: u32, x: usize) -> u32
@@ -43,34 +36,35 @@ fn with_message(sum: u32, src: u8, seq: u32, len: usize, out: &[u8]) -> u32
 }
 
 // The sum, continued with everything that the unit may show: at most as many messages as it has places.
-fn all_taken(first: Unit, before: u32) -> Summed
-    ensures { result ≡ shown first before }
+fn all_taken(unit: &mut Unit, before: u32) -> u32
+    ensures { summed result unit.new ≡ shown unit.old before }
 {
     let mut sum = before;
     let mut out = [0u8; 16];
-    let (mut unit, mut taken) = first.take(&mut out);
+    let mut taken;
+    (*unit, taken) = unit.take(&mut out);
     for count in 0..Unit::PLACES {
         let Ok(t) = taken else {
-            return Summed { sum, unit };
+            return sum;
         };
         sum = with_message(sum, t.src, t.seq, t.len, &out);
-        (unit, taken) = unit.take(&mut out);
+        (*unit, taken) = unit.take(&mut out);
     }
-    Summed { sum, unit }
+    sum
 }
 
-// The unit sends the data, or the frame arrives there, and everything is taken.
+// The unit sends the data, or the frame arrives there, and everything is taken: the sum, continued with it.
 // Kept: an enum of the two steps would be chosen by the very test that is passed here, so it is no plainer than `sends`.
 #[tactic(auto, unfolding(crate::specs::Run::visit_of))]
-fn visited(u: Unit, sends: bool, text: &[u8], frame: &mut [u8], len: usize, sum: u32) -> Summed
+fn visited(unit: &mut Unit, sends: bool, text: &[u8], frame: &mut [u8], len: usize, sum: u32) -> u32
     requires { len ≤ length frame.old }
-    ensures { Gives (visit_of u sends text.now frame.old len sum) result frame.new }
+    ensures { Gives (visit_of unit.old sends text.now frame.old len sum) (summed result unit.new) frame.new }
 {
     if sends {
-        let (unit, _) = u.send(text, frame);
-        return all_taken(unit, sum);
+        (*unit, _) = unit.send(text, frame);
+    } else {
+        (*unit, _) = unit.arrive(&frame[..len]);
     }
-    let (unit, _) = u.arrive(&frame[..len]);
     all_taken(unit, sum)
 }
 
@@ -122,16 +116,14 @@ fn run(n: u8, w: u8, messages: u32) -> u32
         let m = i / size;
         let k = unit_at(i, size);
         text[m % 16] = (m % 256) as u8;
-        let v = visited(
-            units[k],
+        sum = visited(
+            &mut units[k],
             i % size == 0,
             &text,
             &mut frame,
             53 + 4 * size,
             sum,
         );
-        units[k] = v.unit;
-        sum = v.sum;
     }
     sum
 }

@@ -71,10 +71,9 @@ module _ (t : ℕ) where
   has-of Data = refl
   has-of Request = refl
 
-  -- the test of a row is that of its tag, of whatever number u
-  pub has-row : (u : ℕ) → u ≡ t → (k : Kind) (r : Row) → r ≡ line_of (row_of table u) → (b : Bool) → b ≡ is_of r k → (x : Bool) → b ≡ x → has t (code_of k) ≡ x
-  has-row u n k r e b is x h =
-      sym (has-of k) ∙ ap (λ i. is_of (line_of (row_of table i)) k) (sym n) ∙ ap (λ q. is_of q k) (sym e) ∙ sym is ∙ h
+  -- what `has_tag` says of the number of a tag, which is u, and of a kind's
+  pub has-told : (u : ℕ) → u ≡ t → (n : ℕ) → n ≡ u → (k : Kind) (c : ℕ) → c ≡ code_of k → (b : Bool) → b ≡ has n c → (x : Bool) → b ≡ x → has t (code_of k) ≡ x
+  has-told u e n is k c of b says x h = ap (λ i. has i (code_of k)) (sym (is ∙ e)) ∙ ap (has n) (sym of) ∙ sym says ∙ h
 
   has-no-other : (k : ℕ) → k ≢ 1 → k ≢ 2 → has t k ≡ false
   unfolding has

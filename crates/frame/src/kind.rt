@@ -1,4 +1,5 @@
-// The numbers of a frame that is well formed, at their places.
+// The numbers of a frame that is well formed, at their places. All of it is inline, so that reading compiles to one function
+// without calls, though both kinds go through `head_at`.
 ghost use Rattle.std.specs.Prelude.{◌≡◌, true, ◌≤◌, length, get_or};
 ghost use Rattle.rules.specs.Fields.{table, tags_of, fits};
 ghost use Rattle.rules.specs.Message.{edition, decode};
@@ -10,13 +11,15 @@ use crate::{Data, Frame, Head, Request};
 
 // What frames of both kinds say, the length of ACK standing at a place: CID at 11, SRC at 18, and the numbers of ACK.
 // None where one of these is 0.
+// Kept: `any` and no `contains`, whose code for slices of any length would be called from both places.
+#[inline(always)]
 fn head_at(s: &[u8], at: usize) -> Option<Head>
     requires { (19 ≤ length s.now) × AckFits s.now at }
     ensures { result ≡ head_at s.now at }
 {
     let n = number_at(s, at, 2) as usize / 4;
     let ack = acks_at(s, at + 2, n);
-    if ack[..n].contains(&0) {
+    if ack[..n].iter().any(|ack| *ack == 0) {
         return None;
     }
     Some(Head {
@@ -28,6 +31,7 @@ fn head_at(s: &[u8], at: usize) -> Option<Head>
 }
 
 // SEQ stands at 22, the length of ACK at 27, and BUF and the data after ACK. The last number is never a SEQ.
+#[inline(always)]
 pub fn read_data(s: &[u8]) -> Option<Frame>
     requires { (fits table (tags_of table 1) s.now ≡ true) × (get_or s.now 3 0 ≡ edition) × (get_or s.now 7 0 ≡ 1) }
     ensures { result ≡ frame_of (decode s.now) }
@@ -48,6 +52,7 @@ pub fn read_data(s: &[u8]) -> Option<Frame>
 }
 
 // The length of ACK stands at 20, and LSRC and LSEQ after ACK.
+#[inline(always)]
 pub fn read_request(s: &[u8]) -> Option<Frame>
     requires { (fits table (tags_of table 2) s.now ≡ true) × (get_or s.now 3 0 ≡ edition) × (get_or s.now 7 0 ≡ 2) }
     ensures { result ≡ frame_of (decode s.now) }

@@ -18,7 +18,8 @@ pub fn number_at(s: &[u8], at: usize, w: usize) -> u32
     x
 }
 
-// The n numbers of four bytes from a place on; the others of the eight are 0.
+// The n numbers of four bytes from a place on; the others of the eight are 0. Inline, as kind.rt says.
+#[inline(always)]
 pub fn acks_at(s: &[u8], at: usize, n: usize) -> [u32; 8]
     requires { (n ≤ 8) × (at + 4 * n ≤ length s.now) }
     ensures { result ≡ eight (all_numbers 4 n (drop at s.now)) }

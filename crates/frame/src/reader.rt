@@ -7,7 +7,7 @@ ghost use Rattle.frame.specs.Field.{field_at, part_at};
 ghost use Rattle.frame.specs.Reader.{begun, next_of, after_of, part_of};
 
 use crate::field::{Field, field_at, part_at};
-use crate::table::{Kind, TAGS, Tag};
+use crate::table::{Kind, TAGS, Tag, has_tag};
 
 #[derive(Clone, Copy)]
 pub struct Reader<'a> {
@@ -61,7 +61,7 @@ pub fn well_formed(s: &[u8], kind: Kind) -> bool
 {
     let mut reader = Reader::new(s);
     for tag in TAGS {
-        if tag.row().is_of(kind) {
+        if has_tag(tag.into(), kind.into()) {
             let Some(field) = reader.next(tag) else {
                 return false;
             };

@@ -6,7 +6,7 @@ ghost use Rattle.framewrite.specs.Field.{FieldRoom, FieldWritten};
 ghost use Rattle.framewrite.specs.Fields.{number_of, content_of, FieldsRoom, fields_of};
 
 use crate::field::{put_field, put_text};
-use frame::table::{Kind, TAGS, Tag};
+use frame::table::{Kind, TAGS, Tag, has_tag};
 
 // The numbers of a message that stand alone in their fields; what the kind lacks is not read.
 // Kept: one struct for both kinds, since the fields are written by tag, and a tag that the kind lacks never comes up.
@@ -59,7 +59,7 @@ pub fn put_fields(d: &mut [u8], m: Singles, ack: &[u32], text: &[u8])
 {
     let mut at = 0;
     for tag in TAGS {
-        if tag.row().is_of(m.kind) {
+        if has_tag(tag.into(), m.kind.into()) {
             at = put_tag(d, at, tag, m, ack, text);
         }
     }

@@ -10,9 +10,8 @@ use Rattle.rules.proofs.StoresLaws.{sets-++}
 use Rattle.answers.specs.Answers.{Answered, answer_of}
 use Rattle.handing.specs.Handing.{Given, Gives}
 use Rattle.unit.specs.declared.Unit.{Unit}
-use Rattle.replay.specs.declared.calls.Made.{Made}
 use Rattle.replay.specs.Record.{room_of, head_of}
-use Rattle.replay.specs.Calls.{made_of}
+use Rattle.replay.specs.Calls.{Made, made_of}
 use Rattle.replay.specs.Run.{closed_unit, blank, front_of, answered_of, record_at, unit_at, one_more, run_of}
 
 -- ---- a reply

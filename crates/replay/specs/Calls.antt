@@ -11,17 +11,27 @@ use Rattle.unit.specs.declared.Unit.{Unit}
 use Rattle.unit.specs.declared.Sent.{Sent}
 use Rattle.handing.specs.declared.Taken.{Taken}
 use Rattle.unit.specs.Exact.{opened_of, sent_of, arrived_of, taken_of}
-use Rattle.replay.specs.declared.calls.Made.{Made}
 use Rattle.replay.specs.Record.{byte_at, number_at, call_of, x_of, k_of, text_of}
 use Rattle.replay.specs.Changes.{changed_of}
 
+-- three numbers (those that it lacks are 0) or why it refuses, and the next unit
+pub record Made : Type 0 where
+  pub given : Answered (ℕ × ℕ × ℕ)
+  pub unit : Unit
+
+abbrev pub made : Answered (ℕ × ℕ × ℕ) → Unit → Made
+made given u = record { given = given; unit = u }
+
 abbrev pub gives : ℕ → ℕ → ℕ → Unit → Made
-gives a b c u = record { given = Ok (a, b, c); unit = u }
+gives a b c = made (Ok (a, b, c))
 
 -- what a call that may refuse gives: the numbers of what is done
+abbrev pub three_of : {A : Type 0} → (A → ℕ × ℕ × ℕ) → Answered A → Answered (ℕ × ℕ × ℕ)
+three_of numbers (Ok x) = Ok (numbers x)
+three_of numbers (Err r) = Err r
+
 abbrev pub given_by : {A : Type 0} → (A → ℕ × ℕ × ℕ) → Unit → Answered A → Made
-given_by numbers u (Ok x) = record { given = Ok (numbers x); unit = u }
-given_by numbers u (Err r) = record { given = Err r; unit = u }
+given_by numbers u x = made (three_of numbers x) u
 
 -- ---- each call
 
@@ -68,8 +78,11 @@ unfoldable pub arrive_made : Unit → List ℕ → Made
 arrive_made u l = after_arrival (arrived_of u l)
 
 -- a request and a copy leave the unit as it was
+abbrev pub length_alone : ℕ → ℕ × ℕ × ℕ
+length_alone len = (len, 0, 0)
+
 abbrev pub handed_made : Unit → Answered ℕ → Made
-handed_made = given_by (λ len. (len, 0, 0))
+handed_made = given_by length_alone
 
 abbrev pub after_handing : Unit → Given (Answered ℕ) → Given Made
 after_handing u g = record { result = handed_made u g.result; output = g.output }
@@ -87,11 +100,17 @@ unfoldable pub take_made : Unit → List ℕ → Given Made
 take_made u out = record { result = after_take (taken_of u out).result; output = (taken_of u out).output }
 
 -- looks leave the unit as it was too: they show a count alone, or numbers in a row
+abbrev pub count_alone : ℕ → ℕ × ℕ × ℕ
+count_alone count = (0, count, 0)
+
 abbrev pub count_made : Unit → Answered ℕ → Made
-count_made = given_by (λ count. (0, count, 0))
+count_made = given_by count_alone
+
+abbrev pub in_row : Numbers → ℕ × ℕ × ℕ
+in_row row = (row.first, row.count, 0)
 
 abbrev pub look_made : Unit → Answered Numbers → Made
-look_made = given_by (λ row. (row.first, row.count, 0))
+look_made = given_by in_row
 
 -- calls 6 to 11, and nothing with any other
 unfoldable pub seen_made : Unit → ℕ → ℕ → Made

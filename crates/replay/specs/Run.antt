@@ -7,9 +7,8 @@ use Rattle.state.specs.Opening.{closed_core}
 use Rattle.handing.specs.Handing.{Given}
 use Rattle.unit.specs.declared.Unit.{Unit}
 use Rattle.unit.specs.Exact.{empty_with}
-use Rattle.replay.specs.declared.calls.Made.{Made}
 use Rattle.replay.specs.Record.{byte_at, room_of, head_of}
-use Rattle.replay.specs.Calls.{made_of}
+use Rattle.replay.specs.Calls.{Made, made_of}
 
 abbrev pub closed_unit : Unit
 closed_unit = empty_with closed_core

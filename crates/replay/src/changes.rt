@@ -40,12 +40,10 @@ fn set(u: &mut Unit, what: Setting, k: u8, j: u8, x: u32)
 // One number of the unit is set to x; where there is no such thing, none is. Kept: `what` as the record's number, of which a
 // `Setting` is made first.
 #[tactic(auto, using(crate::proofs::ChangeLaws::changed_none))]
-pub fn changed(u: Unit, what: u8, k: u8, j: u8, x: u32) -> Unit
-    ensures { result ≡ changed_of u what k j x }
+pub fn changed(u: &mut Unit, what: u8, k: u8, j: u8, x: u32)
+    ensures { u.new ≡ changed_of u.old what k j x }
 {
-    let mut v = u;
     if let Ok(setting) = Setting::try_from(what) {
-        set(&mut v, setting, k, j, x);
+        set(u, setting, k, j, x);
     }
-    v
 }

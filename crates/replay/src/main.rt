@@ -49,18 +49,17 @@ fn blank() -> [u8; 256]
 }
 
 // The call of a record on a unit: its reply goes to the output from a place on.
-fn answered(u: Unit, s: &[u8], out: &mut [u8], at: usize) -> Unit
+fn answered(u: &mut Unit, s: &[u8], out: &mut [u8], at: usize)
     requires { (208 ≤ length s.now) × (at + 272 ≤ length out.old) }
-    ensures { Gives (answered_of u s.now out.old at) result out.new }
+    ensures { Gives (answered_of u.old s.now out.old at) u.new out.new }
 {
     let mut lent = blank();
     let room = tables::get_or(s, 6, 0) as usize;
-    let m = calls::make(u, s, &mut lent[..room]);
-    let (a, b, c) = m.given.unwrap_or((0, 0, 0));
-    let front = head(answer(&m.given), a, b, c);
+    let given = calls::make(u, s, &mut lent[..room]);
+    let (a, b, c) = given.unwrap_or((0, 0, 0));
+    let front = head(answer(&given), a, b, c);
     tables::put(out, at, &front);
     tables::put(out, at + 16, &lent);
-    m.unit
 }
 
 // The first records of the input, so many of them: the units after them, and their replies.
@@ -71,7 +70,7 @@ fn run(units: &mut [Unit; Unit::MOST_UNITS], input: &[u8], records: usize, out: 
     for i in 0..records {
         let from = CALL * i;
         let k = (tables::get_or(input, from + 1, 0) % 8) as usize;
-        units[k] = answered(units[k], &input[from..from + CALL], out, REPLY * i);
+        answered(&mut units[k], &input[from..from + CALL], out, REPLY * i);
     }
 }
 

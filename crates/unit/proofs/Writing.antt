@@ -1,5 +1,5 @@
 -- What is written into a unit's arrays by a send and an arrival is exact, for each way out.
-use mathlib.Core.Bool.{Bool, true, false, cond}
+use mathlib.Core.Bool.{Bool, true, false, cond, true≢false}
 use mathlib.Core.List.{List}
 use mathlib.Core.Path.{◌≡◌, refl, sym, ap, ◌∙◌}
 use Prim.Native.Nat.{ℕ, ◌+◌, ◌*◌, ◌≤◌}
@@ -33,9 +33,7 @@ use Rattle.steps.specs.Arrival.{arrival_of}
 use Rattle.steps.specs.Checks.{send_checks}
 use Rattle.steps.specs.Sending.{sending_own, sending_checked, sending_of}
 use Rattle.steps.specs.Means.{own_message, own_frame}
-use Rattle.handing.specs.Handing.{Gives}
 use Rattle.unit.specs.declared.Unit.{Unit}
-use Rattle.unit.specs.declared.Sent.{Sent}
 use Rattle.unit.specs.Exact.{with_core, stored_with, sent_unit, sent_by, sent_of, arrived_by, arrived_of}
 
 -- what is written into the arrays of u, and settled; `slots` are the kept frames then
@@ -54,33 +52,33 @@ stored_is u c place ack text frames next w i =
       frames = w.frames i;
     }
 
+pub is-stored : (u : Unit) (c : Core) (place : ℕ) (ack text frames : List ℕ) (next : Unit) → next ≡ stored_with u c place ack text frames → Stored u c place ack text frames next
+is-stored u c place ack text frames next e = rw e (record { acks = refl; bytes = refl; frames = refl; core = refl })
+
 -- ---- arrival
+
+-- a message is stored
+abbrev pub stores : Answered Arrival → Bool
+stores (Ok (Asked x)) = false
+stores (Ok (Accepted s)) = true
+stores (Err r) = false
+
+-- what an arrival hands out: why it is refused, or the numbers to resend
+abbrev pub resent : Answered Arrival → Answered (Option Resend)
+resent (Ok (Asked x)) = Ok (Some x)
+resent (Ok (Accepted s)) = Ok None
+resent (Err r) = Err r
 
 -- what `steps` gives: the next numbers c, and r
 module _ (u : Unit) (l : List ℕ) (c : Core) (r : Answered Arrival) (e : (c, r) ≡ arrival_of u.core u.acks (decode l)) where
-  pub arrived-refused : (d : Refusal) → r ≡ Err d → (with_core u c, Err d) ≡ arrived_of u l
+  pub arrived-passing : stores r ≡ false → (with_core u c, resent r) ≡ arrived_of u l
   unfolding arrived_of arrived_by
-  arrived-refused d h = rw (← e, h)
-
-  -- done on the unit with the next numbers
-  pub arrived-done : (a : Arrival) → r ≡ Ok a → (text : List ℕ) → text ≡ payload_of (decode l) → (next : Unit) (x : Option Resend)
-      → (next, Ok x) ≡ arrived_by (with_core u c) text c (Ok a) → (next, Ok x) ≡ arrived_of u l
-  unfolding arrived_of arrived_by
-  arrived-done a h text t next x w =
-      w ∙ same a
-      ∙ ap (λ (d : List ℕ). arrived_by u d c (Ok a)) t
-      ∙ ap (arrived_by u (payload_of (decode l)) c) (sym h)
-      ∙ ap (λ (z : Core × Answered Arrival). arrived_by u (payload_of (decode l)) z.0 z.1) e
+  arrived-passing = go r e
     where
-      same : (a : Arrival) → arrived_by (with_core u c) text c (Ok a) ≡ arrived_by u text c (Ok a)
-      same (Asked r) = refl
-      same (Accepted s) = refl
-
--- the two ways an arrival is done, piece by piece
-module _ (u : Unit) (l : List ℕ) (c : Core) (r : Answered Arrival) (e : (c, r) ≡ arrival_of u.core u.acks (decode l)) where
-  pub arrived-passing : (x : Resend) → r ≡ Ok (Asked x) → (with_core u c, Ok (Some x)) ≡ arrived_of u l
-  unfolding arrived_of arrived_by
-  arrived-passing x h = rw (← e, h)
+      go : (r : Answered Arrival) → (c, r) ≡ arrival_of u.core u.acks (decode l) → stores r ≡ false → (with_core u c, resent r) ≡ arrived_of u l
+      go (Ok (Asked x)) e h = rw (← e)
+      go (Ok (Accepted s)) e h = absurd (true≢false h)
+      go (Err d) e h = rw (← e)
 
   pub arrived-storing : (s : declared.Stored) → r ≡ Ok (Accepted s) → (text : List ℕ) → text ≡ payload_of (decode l)
       → (next : Unit) → Stored u c s.place s.ack text (without_frames u.frames s.gone) next
@@ -155,24 +153,10 @@ module _ (u : Unit) (d out : List ℕ) (r : Answered Sending) (e : r ≡ sending
   unfolding sent_of sent_by
   sent-refused x h = rw (← e, h)
 
-  pub sent-given : (s : Sending) → r ≡ Ok s → (x : Unit × Answered Sent) (after : List ℕ) → Gives (sent_by u d out (Ok s)) x after
-      → record { result = x; output = after } ≡ sent_of u d out
-  unfolding sent_of
-  sent-given s h x after g = (λ i. record { result = g.result i; output = g.output i }) ∙ ap (sent_by u d out) (sym h ∙ e)
-
--- what is written by the send s, the frame first
-pub sent-written : (u : Unit) (d out : List ℕ) (s : Sending) (frame after : List ℕ) → frame ≡ own_frame u.core s.buf d → after ≡ written out (own_frame u.core s.buf d)
-    → (len : ℕ) → len ≡ length (own_frame u.core s.buf d)
-    → (next : Unit) → Stored u s.core s.place u.core.req d (without_frames (with_frame u.frames s.slot frame) s.gone) next
-    → Gives (sent_by u d out (Ok s)) (next, Ok (record { seq = u.core.seq; len = len })) after
-unfolding sent_by sent_unit
-sent-written u d out s frame after f x len m next w =
-    rw (m, x, ← f, stored_is u s.core s.place u.core.req d (without_frames (with_frame u.frames s.slot frame) s.gone) next w) (record { result = refl; output = refl })
-
-pub sent-done : (u : Unit) (d out : List ℕ) (r : Answered Sending) → r ≡ sending_of u.core u.acks (length d) (length out) → (s : Sending) → r ≡ Ok s
-    → (frame after : List ℕ) → frame ≡ own_frame u.core s.buf d → after ≡ written out (own_frame u.core s.buf d)
-    → (len : ℕ) → len ≡ length (own_frame u.core s.buf d)
-    → (next : Unit) → Stored u s.core s.place u.core.req d (without_frames (with_frame u.frames s.slot frame) s.gone) next
-    → record { result = (next, Ok (record { seq = u.core.seq; len = len })); output = after } ≡ sent_of u d out
-sent-done u d out r e s h frame after f x len m next w =
-    sent-given u d out r e s h _ after (sent-written u d out s frame after f x len m next w)
+  pub sent-done : (s : Sending) → r ≡ Ok s → (frame after : List ℕ) → frame ≡ own_frame u.core s.buf d → after ≡ written out (own_frame u.core s.buf d)
+      → (len : ℕ) → len ≡ length (own_frame u.core s.buf d)
+      → (next : Unit) → Stored u s.core s.place u.core.req d (without_frames (with_frame u.frames s.slot frame) s.gone) next
+      → record { result = (next, Ok (record { seq = u.core.seq; len = len })); output = after } ≡ sent_of u d out
+  unfolding sent_of sent_by sent_unit
+  sent-done s h frame after f x len m next w =
+      rw (← e, h, m, x, ← f, stored_is u s.core s.place u.core.req d (without_frames (with_frame u.frames s.slot frame) s.gone) next w)

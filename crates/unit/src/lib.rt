@@ -3,10 +3,9 @@
 
 ghost use Rattle.rules.specs.Looks as rules;
 ghost use Rattle.handing.specs.Looks.{count_alone, row, to_take_in, free_places_in, kept_numbers_in, missing_in, waiting_in};
-ghost use Rattle.std.specs.Prelude.{◌≡◌, ◌≤◌, length, Ok};
-ghost use Rattle.handing.specs.Handing.{Gives};
-ghost use Rattle.steps.specs.Sending.{sending_of};
-ghost use Rattle.unit.specs.Exact.{sent_by, arrived_by};
+ghost use Rattle.std.specs.Prelude.{◌≡◌};
+ghost use Rattle.store.specs.Arrays.{with_frame, without_frames};
+ghost use Rattle.unit.specs.Exact.{stored_with};
 ghost use Rattle.unit.specs.View.{view};
 ghost use Rattle.unit.specs.CallContracts.{Opens, Sends, Arrives, Asks, Copies, Takes, Looks, Tests};
 
@@ -21,7 +20,7 @@ use state;
 use state::{Core, Opening};
 use steps;
 pub use steps::Resend;
-use steps::{Arrival, Sending};
+use steps::{Arrival, Sending, Stored};
 use store;
 use store::arrays;
 
@@ -83,26 +82,29 @@ impl Unit {
     {
         let given = match steps::send(self.core, &self.acks, text.len(), out.len()) {
             Err(refusal) => Err(refusal),
-            Ok(s) => Ok(self.sent(s, text, out)),
+            Ok(s) => {
+                let c = self.core;
+                let n = c.n as usize;
+                let len = framewrite::write_data(
+                    out, c.cid, c.me, c.seq, &c.req, n, s.buf, text,
+                ).unwrap();
+                self.keep(s, &out[..len], text);
+                Ok(Sent { seq: c.seq, len })
+            }
         };
         (self, given)
     }
 
-    // The frame is written and kept, and its message stored and settled.
-    fn sent(&mut self, s: Sending, text: &[u8], out: &mut [u8]) -> Sent
-        requires { (sending_of self.old.core self.old.acks (length text.now) (length out.old) ≡ Ok s) × (self.old.core.n ≤ length self.old.core.req) }
-        ensures { Gives (sent_by self.old text.now out.old (Ok s)) (self.new, Ok result) out.new }
+    // The frame of a send is kept, and its message stored and settled.
+    fn keep(&mut self, s: Sending, frame: &[u8], text: &[u8])
+        ensures { self.new ≡ stored_with self.old s.core s.place self.old.core.req text.now (without_frames (with_frame self.old.frames s.slot frame.now) s.gone) }
     {
-        let c = self.core;
-        let req = c.req;
-        let n = c.n as usize;
-        let len = framewrite::write_data(out, c.cid, c.me, c.seq, &req, n, s.buf, text).unwrap();
-        arrays::put_frame(&mut self.frames, s.slot, &out[..len]);
+        let req = self.core.req;
+        arrays::put_frame(&mut self.frames, s.slot, frame);
         arrays::drop_frames(&mut self.frames, s.gone);
         arrays::put_ack(&mut self.acks, s.place, req);
         arrays::put_text(&mut self.bytes, s.place, text);
         self.core = store::settled(s.core, &self.acks);
-        Sent { seq: c.seq, len }
     }
 
     // A frame of either kind arrives; for a request, the numbers to resend come back. Refusals, data: 1, 3, 4, 5, 6, 7, 8,
@@ -114,25 +116,25 @@ impl Unit {
         self.core = next;
         let given = match arrived {
             Err(refused) => Err(refused),
-            Ok(arrival) => Ok(self.after(arrival, frame::payload(s))),
+            Ok(arrival) => match arrival {
+                Arrival::Asked(resend) => Ok(Some(resend)),
+                Arrival::Accepted(a) => {
+                    self.accept(a, frame::payload(s));
+                    Ok(None)
+                }
+            },
         };
         (self, given)
     }
 
-    // What is accepted is written into the arrays, and settled; for a request, the numbers to resend come back.
-    fn after(&mut self, arrival: Arrival, text: &[u8]) -> Option<Resend>
-        ensures { (self.new, Ok result) ≡ arrived_by self.old text.now self.old.core (Ok arrival) }
+    // A message that has come is stored and settled.
+    fn accept(&mut self, a: Stored, text: &[u8])
+        ensures { self.new ≡ stored_with self.old self.old.core a.place a.ack text.now (without_frames self.old.frames a.gone) }
     {
-        match arrival {
-            Arrival::Asked(resend) => Some(resend),
-            Arrival::Accepted(a) => {
-                arrays::put_ack(&mut self.acks, a.place, a.ack);
-                arrays::put_text(&mut self.bytes, a.place, text);
-                arrays::drop_frames(&mut self.frames, a.gone);
-                self.core = store::settled(self.core, &self.acks);
-                None
-            }
-        }
+        arrays::put_ack(&mut self.acks, a.place, a.ack);
+        arrays::put_text(&mut self.bytes, a.place, text);
+        arrays::drop_frames(&mut self.frames, a.gone);
+        self.core = store::settled(self.core, &self.acks);
     }
 
     // Makes the request for what is missing of unit k, and gives its length. Refusals: 1, 5, 18, 16.

@@ -11,13 +11,13 @@ use Rattle.drive.proofs.all_taken.Goals as goal
 pub returns-in_default : goal.returns-in_default
 returns-in_default c =
     let l = c.loop-count in
-    let first = take-given _ _ _ _ c.take-taken.ensures in
+    let first = take-given _ _ _ _ c.take.ensures in
     taken-stop l.unit l.out l.sum (128 - l.count) l.taken _ c.in_default.is ∙ l.invariant.1 ∙ ap (all_after 128 c.args.before) first
 
 pub loop-count-preserved : goal.loop-count-preserved
 loop-count-preserved c =
     let l = c.loop-count in
-    let next = take-given _ _ _ _ c.take.ensures in
+    let next = take-given _ _ _ _ c.take-in-loop-count.ensures in
     let less : 128 - l.count - 1 ≡ 128 - (l.count + 1) = omega arith in
     let more =
     ap (λ (t : Answered Taken). all_taken (128 - l.count) l.unit t l.out l.sum) c.in-Ok.is
@@ -28,5 +28,5 @@ loop-count-preserved c =
 pub returns : goal.returns
 returns c =
     let l = c.loop-count in
-    let first = take-given _ _ _ _ c.take-taken.ensures in
+    let first = take-given _ _ _ _ c.take.ensures in
     taken_none l.unit l.out l.sum (128 - l.count) l.taken (omega arith) ∙ l.invariant.1 ∙ ap (all_after 128 c.args.before) first

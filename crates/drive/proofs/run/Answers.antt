@@ -21,7 +21,7 @@ loop-i-preserved c =
     let l = c.loop-i in
     let a = c.args in
     let g : Group = record { units = l.units; text = l.text; frame = l.frame; sum = l.sum } in
-    let more = visit-more a.n a.w l.i g c.unit_at-k.result l.invariant.1 c.unit_at-k.ensures.0 (omega arith) _ _ _ c.visited-v.ensures in
+    let more = visit-more a.n a.w l.i g c.unit_at-k.result l.invariant.1 c.unit_at-k.ensures.0 (omega arith) _ _ _ c.visited-sum.ensures in
     ((omega arith, (search rules, (search rules, search rules))), more)
 
 pub returns : goal.returns

@@ -39,7 +39,8 @@ asking-written c acks k out s u d h x z r after w =
     l : List ℕ
     l = encode (request (request_of c.cid c.me (take c.n c.req) k x))
 
-    go : (t : Bool) → r ≡ (cond {A = Writing} t (record { given = Err OutputTooShort; output = out }) (record { given = Ok (length l); output = written out l })).given
+    go : (t : Bool)
+        → r ≡ (cond {A = Writing} t (record { given = Err OutputTooShort; output = out }) (record { given = Ok (length l); output = written out l })).given
         → after ≡ (cond {A = Writing} t (record { given = Err OutputTooShort; output = out }) (record { given = Ok (length l); output = written out l })).output
         → Gives (cond t (refusing out 16) (done_with (length l) l out)) r after
     go true a b = record { result = a; output = b }

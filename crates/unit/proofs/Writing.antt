@@ -43,7 +43,8 @@ pub record Stored (u : Unit) (c : Core) (place : ℕ) (ack text slots : List ℕ
   pub frames : next.frames ≡ slots
   pub core : next.core ≡ settled_of c next.acks
 
-pub stored_is : (u : Unit) (c : Core) (place : ℕ) (ack text frames : List ℕ) (next : Unit) → Stored u c place ack text frames next → next ≡ stored_with u c place ack text frames
+pub stored_is : (u : Unit) (c : Core) (place : ℕ) (ack text frames : List ℕ) (next : Unit) → Stored u c place ack text frames next
+    → next ≡ stored_with u c place ack text frames
 stored_is u c place ack text frames next w i =
     record {
       core = (w.core ∙ ap (settled_of c) w.acks) i;
@@ -52,7 +53,8 @@ stored_is u c place ack text frames next w i =
       frames = w.frames i;
     }
 
-pub is-stored : (u : Unit) (c : Core) (place : ℕ) (ack text frames : List ℕ) (next : Unit) → next ≡ stored_with u c place ack text frames → Stored u c place ack text frames next
+pub is-stored : (u : Unit) (c : Core) (place : ℕ) (ack text frames : List ℕ) (next : Unit) → next ≡ stored_with u c place ack text frames
+    → Stored u c place ack text frames next
 is-stored u c place ack text frames next e = rw e (record { acks = refl; bytes = refl; frames = refl; core = refl })
 
 -- ---- arrival

@@ -97,7 +97,8 @@ impl Unit {
 
     // The frame of a send is kept, and its message stored and settled.
     fn keep(&mut self, s: Sending, frame: &[u8], text: &[u8])
-        ensures { self.new ≡ stored_with self.old s.core s.place self.old.core.req text.now (without_frames (with_frame self.old.frames s.slot frame.now) s.gone) }
+        ensures { self.new ≡ stored_with self.old s.core s.place self.old.core.req text.now
+            (without_frames (with_frame self.old.frames s.slot frame.now) s.gone) }
     {
         let req = self.core.req;
         arrays::put_frame(&mut self.frames, s.slot, frame);

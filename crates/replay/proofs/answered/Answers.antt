@@ -22,5 +22,6 @@ pub returns : goal.returns
 returns c =
     let a = c.args in
     let front = front-given c.make-given.result _ c.unwrap_or-a.result _ c.answer.ensures c.unwrap_or-a.ensures c.head-front.ensures in
-    answered-gives a.u.now a.s.now a.out.now a.at _ _ (made c.make-given.result c.make-given.new.u) _ _ _ _ c.get_or-room.ensures c.blank-lent.ensures c.make-given.ensures
+    let m = made c.make-given.result c.make-given.new.u in
+    answered-gives a.u.now a.s.now a.out.now a.at _ _ m _ _ _ _ c.get_or-room.ensures c.blank-lent.ensures c.make-given.ensures
     front c.put.ensures c.put-2.ensures

@@ -15,7 +15,8 @@ pub returns-then-any : goal.returns-then-any
 returns-then-any c =
     let l = c.args.s.now in
     let p = c.args.at in
-    let some = any_from_yields_List (λ y. nat_eq y 0) _ _ c.any.result c.any.ensures.ran (YieldsList-from_slice (take (c.number_at.result / 4) c.acks_at-ack.result) cc) (λ x b q k. search (rules, tests)) in
+    let all = YieldsList-from_slice (take (c.number_at.result / 4) c.acks_at-ack.result) cc in
+    let some = any_from_yields_List (λ y. nat_eq y 0) _ _ c.any.result c.any.ensures.ran all (λ x b q k. search (rules, tests)) in
     no-head l p (some-zero l p _ _ c.number_at.ensures c.acks_at-ack.ensures _ some ∙ ap not c.if-any.true)
 
 pub returns : goal.returns
@@ -24,5 +25,6 @@ returns c =
     let p = c.args.at in
     let e = c.number_at.ensures in
     let k = c.acks_at-ack.ensures in
-    let some = any_from_yields_List (λ y. nat_eq y 0) _ _ c.any.result c.any.ensures.ran (YieldsList-from_slice (take (c.number_at.result / 4) c.acks_at-ack.result) cc) (λ x b q k. search (rules, tests)) in
+    let all = YieldsList-from_slice (take (c.number_at.result / 4) c.acks_at-ack.result) cc in
+    let some = any_from_yields_List (λ y. nat_eq y 0) _ _ c.any.result c.any.ensures.ran all (λ x b q k. search (rules, tests)) in
     a-head l p _ _ e k (some-zero l p _ _ e k _ some ∙ ap not c.if-any.false) _ _ c.number_at-2.ensures c.number_at-3.ensures

@@ -78,11 +78,11 @@ unfoldable pub arrive_made : Unit → List ℕ → Made
 arrive_made u l = after_arrival (arrived_of u l)
 
 -- a request and a copy leave the unit as it was
-abbrev pub length_alone : ℕ → ℕ × ℕ × ℕ
-length_alone len = (len, 0, 0)
+abbrev pub of_length : ℕ → ℕ × ℕ × ℕ
+of_length len = (len, 0, 0)
 
 abbrev pub handed_made : Unit → Answered ℕ → Made
-handed_made = given_by length_alone
+handed_made = given_by of_length
 
 abbrev pub after_handing : Unit → Given (Answered ℕ) → Given Made
 after_handing u g = record { result = handed_made u g.result; output = g.output }
@@ -100,17 +100,17 @@ unfoldable pub take_made : Unit → List ℕ → Given Made
 take_made u out = record { result = after_take (taken_of u out).result; output = (taken_of u out).output }
 
 -- looks leave the unit as it was too: they show a count alone, or numbers in a row
-abbrev pub count_alone : ℕ → ℕ × ℕ × ℕ
-count_alone count = (0, count, 0)
+abbrev pub of_count : ℕ → ℕ × ℕ × ℕ
+of_count count = (0, count, 0)
 
 abbrev pub count_made : Unit → Answered ℕ → Made
-count_made = given_by count_alone
+count_made = given_by of_count
 
-abbrev pub in_row : Numbers → ℕ × ℕ × ℕ
-in_row row = (row.first, row.count, 0)
+abbrev pub of_row : Numbers → ℕ × ℕ × ℕ
+of_row row = (row.first, row.count, 0)
 
 abbrev pub look_made : Unit → Answered Numbers → Made
-look_made = given_by in_row
+look_made = given_by of_row
 
 -- calls 6 to 11, and nothing with any other
 unfoldable pub seen_made : Unit → ℕ → ℕ → Made

@@ -2,7 +2,7 @@
 ghost use Rattle.std.specs.Prelude.{◌≡◌, ◌+◌, ◌*◌, ◌≤◌, length};
 ghost use Rattle.rules.specs.Maps.{listed};
 ghost use Rattle.handing.specs.Handing.{Gives};
-ghost use Rattle.replay.specs.Calls.{made, gives, three_of, length_alone, count_alone, in_row, open_made, send_made, arrive_made, take_made, made_of};
+ghost use Rattle.replay.specs.Calls.{made, gives, three_of, of_length, of_count, of_row, open_made, send_made, arrive_made, take_made, made_of};
 ghost use Rattle.replay.specs.Kinds.{call_number};
 ghost use Rattle.replay.specs.Changes.{changed_of};
 ghost use Rattle.replay.specs.Record.{byte_at, number_at, call_of};
@@ -69,7 +69,7 @@ fn arrived(u: &mut Unit, frame: &[u8]) -> Gave
 
 // A request and a copy give the length of a frame.
 fn handed(len: Result<usize, Refusal>) -> Gave
-    ensures { result ≡ three_of length_alone len }
+    ensures { result ≡ three_of of_length len }
 {
     len.map(|len| (len, 0, 0))
 }
@@ -85,13 +85,13 @@ fn taken(u: &mut Unit, out: &mut [u8]) -> Gave
 
 // Looks show a count alone, or numbers in a row.
 fn counted(count: Result<usize, Refusal>) -> Gave
-    ensures { result ≡ three_of count_alone count }
+    ensures { result ≡ three_of of_count count }
 {
     count.map(|count| (0, count, 0))
 }
 
 fn looked(numbers: Result<Numbers, Refusal>) -> Gave
-    ensures { result ≡ three_of in_row numbers }
+    ensures { result ≡ three_of of_row numbers }
 {
     numbers.map(|row| (row.first as usize, row.count, 0))
 }

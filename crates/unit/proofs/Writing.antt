@@ -53,31 +53,31 @@ stored_is u c place ack text frames next w i =
       frames = w.frames i;
     }
 
-pub is-stored : (u : Unit) (c : Core) (place : ℕ) (ack text frames : List ℕ) (next : Unit) → next ≡ stored_with u c place ack text frames
+pub stored_from : (u : Unit) (c : Core) (place : ℕ) (ack text frames : List ℕ) (next : Unit) → next ≡ stored_with u c place ack text frames
     → Stored u c place ack text frames next
-is-stored u c place ack text frames next e = rw e (record { acks = refl; bytes = refl; frames = refl; core = refl })
+stored_from u c place ack text frames next e = rw e (record { acks = refl; bytes = refl; frames = refl; core = refl })
 
 -- ---- arrival
 
--- a message is stored
-abbrev pub stores : Answered Arrival → Bool
-stores (Ok (Asked x)) = false
-stores (Ok (Accepted s)) = true
-stores (Err r) = false
+-- a message is accepted, and so stored
+abbrev pub is_accepted : Answered Arrival → Bool
+is_accepted (Ok (Asked x)) = false
+is_accepted (Ok (Accepted s)) = true
+is_accepted (Err r) = false
 
--- what an arrival hands out: why it is refused, or the numbers to resend
-abbrev pub resent : Answered Arrival → Answered (Option Resend)
-resent (Ok (Asked x)) = Ok (Some x)
-resent (Ok (Accepted s)) = Ok None
-resent (Err r) = Err r
+-- what an arrival gives back: why it is refused, or the numbers to resend
+abbrev pub gives_back : Answered Arrival → Answered (Option Resend)
+gives_back (Ok (Asked x)) = Ok (Some x)
+gives_back (Ok (Accepted s)) = Ok None
+gives_back (Err r) = Err r
 
 -- what `steps` gives: the next numbers c, and r
 module _ (u : Unit) (l : List ℕ) (c : Core) (r : Answered Arrival) (e : (c, r) ≡ arrival_of u.core u.acks (decode l)) where
-  pub arrived-passing : stores r ≡ false → (with_core u c, resent r) ≡ arrived_of u l
+  pub arrived-passing : is_accepted r ≡ false → (with_core u c, gives_back r) ≡ arrived_of u l
   unfolding arrived_of arrived_by
   arrived-passing = go r e
     where
-      go : (r : Answered Arrival) → (c, r) ≡ arrival_of u.core u.acks (decode l) → stores r ≡ false → (with_core u c, resent r) ≡ arrived_of u l
+      go : (r : Answered Arrival) → (c, r) ≡ arrival_of u.core u.acks (decode l) → is_accepted r ≡ false → (with_core u c, gives_back r) ≡ arrived_of u l
       go (Ok (Asked x)) e h = rw (← e)
       go (Ok (Accepted s)) e h = absurd (true≢false h)
       go (Err d) e h = rw (← e)

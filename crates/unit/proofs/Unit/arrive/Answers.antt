@@ -6,7 +6,7 @@ use Rattle.steps.specs.declared.Arrival.{Arrival}
 use Rattle.steps.specs.declared.Arrival.TheVariants.{Asked}
 use Rattle.unit.proofs.Means.{arrives-bytes}
 use Rattle.unit.proofs.Shape.{shaped}
-use Rattle.unit.proofs.Writing.{is-stored, arrived-passing, arrived-storing}
+use Rattle.unit.proofs.Writing.{stored_from, arrived-passing, arrived-storing}
 use Rattle.unit.proofs.Unit.arrive.Goals as goal
 
 pub returns-in-Err : goal.returns-in-Err
@@ -29,4 +29,4 @@ returns-in-Accepted c =
     let u = c.args.self in
     arrives-bytes u (shaped u _ c.well_formed.0.1.1) c.args.s.now _
     (arrived-storing u _ _ _ c.arrive-arrived.ensures _ (c.in-Ok.is ∙ ap (λ (a : Arrival). Ok a) c.in-Accepted.is) _ c.payload.ensures _
-    (is-stored u _ _ _ _ _ _ c.accept.ensures))
+    (stored_from u _ _ _ _ _ _ c.accept.ensures))

@@ -6,7 +6,7 @@ use lib.ListN.{length}
 use Rattle.std.specs.Result.{IsOk}
 use Rattle.unit.proofs.Means.{sends-data}
 use Rattle.unit.proofs.Shape.{shaped}
-use Rattle.unit.proofs.Writing.{Sendable, sendable, own-done, own-written, own-size, own-fits, own-front, is-stored, sent-refused, sent-done}
+use Rattle.unit.proofs.Writing.{Sendable, sendable, own-done, own-written, own-size, own-fits, own-front, stored_from, sent-refused, sent-done}
 use Rattle.unit.proofs.Unit.send.Goals as goal
 
 pub returns-in-Err : goal.returns-in-Err
@@ -44,4 +44,4 @@ returns-in-Ok c =
     sends-data u (shaped u _ c.well_formed.0.1.1) _ _ _ _
     (sent-done u _ _ _ c.send.ensures _ c.in-Ok.is _ _ (own-front _ _ _ most _ passed _ _ c.write_data.ensures _ c.unwrap-len.ensures)
     (own-written _ _ _ most _ passed _ _ c.write_data.ensures) _ (own-size _ _ _ most _ passed _ _ c.write_data.ensures _ c.unwrap-len.ensures) _
-    (is-stored u _ _ _ _ _ _ c.keep.ensures))
+    (stored_from u _ _ _ _ _ _ c.keep.ensures))
